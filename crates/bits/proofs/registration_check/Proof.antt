@@ -1,0 +1,19 @@
+use Rattle.bits.specs.Crc.{registered}
+use borrow.Author.Tests.{eq-eqb, ne-eqb}
+use borrow.Author.Needs.{needs}
+use Rattle.bits.proofs.registration_check.Statement.{statement}
+use Rattle.bits.proofs.registration_check.Tie as tie
+
+crc-from-requires : tie.Need-crc-from-requires
+crc-from-requires c κs = search needs
+
+returns : tie.Need-returns
+unfolding registered
+returns c = simp (c .crc-from .ensures, eq-eqb _ _ (c .before .if1 .taken))
+
+returns-2 : tie.Need-returns-2
+unfolding registered
+returns-2 c = simp (ne-eqb _ _ (c .if1 .left))
+
+pub registration-check-spec : {M : Type 1} → statement M
+registration-check-spec = tie.close (tie.spec crc-from-requires returns returns-2)

@@ -1,0 +1,37 @@
+-- Document 01, 'ROM stage': bits go least significant first. A level is a Bool, false is 0; a byte is a number below 256.
+use Prim.Native.Nat.{ℕ, _+_, _-_, _/_, _%_, _^_}
+use mathlib.Core.Bool.{Bool, true, false, cond}
+use mathlib.Core.List.{List}
+use lib.ListN.{getD, set}
+use lib.Dec.{eqb, leb}
+
+-- bit i of the byte b: the one of place value 2 ^ i
+unfoldable pub bitOf : ℕ → ℕ → Bool
+bitOf b i = eqb (b / 2 ^ i % 2) 1
+
+-- bit i of bytes that follow each other is bit i % 8 of byte i / 8
+abbrev pub byteOf : ℕ → ℕ
+byteOf i = i / 8
+
+abbrev pub placeOf : ℕ → ℕ
+placeOf i = i % 8
+
+unfoldable pub bitAt : List ℕ → ℕ → Bool
+bitAt s i = bitOf (getD s (byteOf i) 0) (placeOf i)
+
+-- the byte b with bit i at a level, the others as they were; a byte has bits 0 to 7 only
+unfoldable pub atLevel : ℕ → ℕ → Bool → ℕ
+atLevel b i true = cond (bitOf b i) b (b + 2 ^ i)
+atLevel b i false = cond (bitOf b i) (b - 2 ^ i) b
+
+unfoldable pub withBit : ℕ → ℕ → Bool → ℕ
+withBit b i level = cond (leb 8 i) b (atLevel b i level)
+
+-- the bytes s with bit i at a level
+unfoldable pub putBit : List ℕ → ℕ → Bool → List ℕ
+putBit s i level = set s (byteOf i) (withBit (getD s (byteOf i) 0) (placeOf i) level)
+
+-- a register of so many bits, shifted down by one place, with a level at its top
+unfoldable pub shiftIn : ℕ → ℕ → Bool → ℕ
+shiftIn width value true = value / 2 + 2 ^ (width - 1)
+shiftIn width value false = value / 2
