@@ -1,0 +1,69 @@
+use Rattle.image.specs.Refusal.{equalBytes}
+use borrow.Author.Needs.{needs}
+use mathlib.Core.Path.{refl}
+use Rattle.image.specs.Refusal.{doubled}
+use Rattle.image.specs.Image.{countOf}
+use native.Mathlib.Omega.{arith}
+use mathlib.Core.Path.{sym, ap, _∙_}
+use Rattle.image.proofs.Laws.{some-at, some-more}
+use Rattle.image.specs.Refusal.{someBelow, repeated}
+use Prim.Native.Nat.{_≤_, _-_}
+use mathlib.Core.Bool.{false}
+use mathlib.Core.Path.{_≡_}
+use Rattle.image.proofs.is_doubled.Statement.{statement}
+use Rattle.image.proofs.is_doubled.Tie as tie
+
+abbrev Inv-loop : tie.InvT-loop
+Inv-loop image n j₀ j = (j ≤ n) × (someBelow j (λ k. repeated image k) ≡ false)
+
+abbrev μ-loop : tie.MeasureT-loop
+μ-loop image n j₀ j = n - j
+
+count-requires : tie.Need-count-requires Inv-loop μ-loop
+count-requires c κs = search needs
+
+loop-holds : tie.Need-loop-holds Inv-loop μ-loop
+unfolding doubled someBelow repeated equalBytes
+loop-holds c = (omega arith, refl)
+
+is-repeated-requires : tie.Need-is-repeated-requires Inv-loop μ-loop
+is-repeated-requires c κs = search needs
+
+returns : tie.Need-returns Inv-loop μ-loop
+unfolding doubled
+returns c = sym (some-at _ _ (c .before .before .before .loop .j) (omega arith) (sym (c .before .is-repeated .ensures) ∙ c .if1 .taken))
+
+add-j : tie.Need-add-j Inv-loop μ-loop
+add-j c = search needs
+
+loop-less : tie.Need-loop-less Inv-loop μ-loop
+loop-less c = search needs
+
+loop-again : tie.Need-loop-again Inv-loop μ-loop
+loop-again c =
+    let image = c .before .before .before .before .before .before .args .image .now in
+    let l = c .before .before .before .loop in
+    (omega arith, some-more (λ k. repeated image k) (l .j) (l .inv .1) (sym (c .before .is-repeated .ensures) ∙ c .if1 .left))
+
+returns-2 : tie.Need-returns-2 Inv-loop μ-loop
+unfolding doubled
+returns-2 c =
+    let image = c .before .before .before .before .args .image .now in
+    let l = c .before .loop in
+    let all : l .j ≡ countOf image = omega arith in
+    sym (rw all at (l .inv .1))
+
+pub is-doubled-spec : {M : Type 1} → statement M
+is-doubled-spec =
+    tie.close
+    (tie.spec
+    Inv-loop
+    μ-loop
+    count-requires
+    loop-holds
+    is-repeated-requires
+    returns
+    add-j
+    loop-less
+    loop-again
+    returns-2)

@@ -1,0 +1,71 @@
+use Rattle.image.specs.Image.{countOf}
+use Prim.Native.Nat.{ℕ}
+use mathlib.Core.Bool.{Bool, true}
+use mathlib.Core.Path.{sym, ap, _∙_}
+use Rattle.bits.specs.Crc.{registered}
+use Rattle.image.specs.Refusal.{miscoded}
+use borrow.Author.Needs.{needs}
+use mathlib.Core.Path.{refl}
+use native.Mathlib.Omega.{arith}
+use Rattle.image.proofs.Laws.{some-at, some-more}
+use Rattle.image.specs.Refusal.{someBelow, codeRefused}
+use Prim.Native.Nat.{_≤_, _-_}
+use mathlib.Core.Bool.{false}
+use mathlib.Core.Path.{_≡_}
+use Rattle.image.proofs.is_miscoded.Statement.{statement}
+use Rattle.image.proofs.is_miscoded.Tie as tie
+
+abbrev Inv-loop : tie.InvT-loop
+Inv-loop image n i₀ i = (i ≤ n) × (someBelow i (λ k. codeRefused image k) ≡ false)
+
+abbrev μ-loop : tie.MeasureT-loop
+μ-loop image n i₀ i = n - i
+
+count-requires : tie.Need-count-requires Inv-loop μ-loop
+count-requires c κs = search needs
+
+loop-holds : tie.Need-loop-holds Inv-loop μ-loop
+unfolding miscoded someBelow codeRefused registered
+loop-holds c = (omega arith, refl)
+
+is-code-refused-requires : tie.Need-is-code-refused-requires Inv-loop μ-loop
+is-code-refused-requires c κs = search needs
+
+returns : tie.Need-returns Inv-loop μ-loop
+unfolding miscoded
+returns c = sym (some-at _ _ (c .before .before .before .loop .i) (omega arith) (sym (c .before .is-code-refused .ensures) ∙ c .if1 .taken))
+
+add-i : tie.Need-add-i Inv-loop μ-loop
+add-i c = search needs
+
+loop-less : tie.Need-loop-less Inv-loop μ-loop
+loop-less c = search needs
+
+loop-again : tie.Need-loop-again Inv-loop μ-loop
+loop-again c =
+    let image = c .before .before .before .before .before .before .args .image .now in
+    let l = c .before .before .before .loop in
+    (omega arith, some-more (λ k. codeRefused image k) (l .i) (l .inv .1) (sym (c .before .is-code-refused .ensures) ∙ c .if1 .left))
+
+returns-2 : tie.Need-returns-2 Inv-loop μ-loop
+unfolding miscoded
+returns-2 c =
+    let image = c .before .before .before .before .args .image .now in
+    let l = c .before .loop in
+    let all : l .i ≡ countOf image = omega arith in
+    sym (rw all at (l .inv .1))
+
+pub is-miscoded-spec : {M : Type 1} → statement M
+is-miscoded-spec =
+    tie.close
+    (tie.spec
+    Inv-loop
+    μ-loop
+    count-requires
+    loop-holds
+    is-code-refused-requires
+    returns
+    add-i
+    loop-less
+    loop-again
+    returns-2)
