@@ -1,0 +1,61 @@
+-- Laws of the DS1992/DS1993 memory stage. Assumes nothing.
+use Prim.Native.Nat.{ℕ, zero, suc, _+_, _-_, _*_, _/_, _%_, _<_, _≤_}
+use mathlib.Core.Path.{_≡_, refl, sym, ap, _∙_}
+use mathlib.Core.Bool.{Bool, true, false, cond, not, _&&_, _||_}
+use mathlib.Core.List.{List, [], _∷_, _++_}
+use native.Mathlib.Omega.{arith}
+use native.Mathlib.Numerals.{add-one}
+use native.Mathlib.Nat.{add-zero, add-suc, suc-add}
+use lib.ListN.{length, getD, set, take, drop, length-set, length-drop, List·getD-eq-default}
+use lib.Seq.{sets, length-sets, getD-set-other, set-out, take-set-le, take-suc, take-all, getD-drop, length-take-le}
+use lib.Dec.{ltb, leb, eqb}
+use borrow.Author.Tests.{ltb-true, ltb-false}
+use Rattle.kind.specs.Kind.{scratchpad, memory}
+use Rattle.sram.specs.Body.{endingOffset, target, targetOffset, copyLength}
+
+-- ---- a copy within one list, byte by byte
+
+-- bytes stored from a place on leave what stands before it
+getD-sets : (vs l : List ℕ) (i j : ℕ) → j < i → getD (sets l i vs) j 0 ≡ getD l j 0
+getD-sets [] l i j h = refl
+getD-sets (v ∷ vs) l i j h = getD-sets vs (set l i v) (suc i) j (omega arith) ∙ getD-set-other l i j v 0 (λ e. omega arith)
+
+-- one byte more
+sets-one-more : (vs l : List ℕ) (i v : ℕ) → sets l i (vs ++ (v ∷ [])) ≡ set (sets l i vs) (i + length vs) v
+sets-one-more [] l i v = rw add-zero
+sets-one-more (w ∷ vs) l i v = sets-one-more vs (set l i w) (suc i) v ∙ ap (λ (j : ℕ). set (sets (set l i w) (suc i) vs) j v) (suc-add i (length vs) ∙ sym (add-suc i (length vs)))
+
+-- a byte from an earlier place, after k of them
+pub copy-one-more : (l : List ℕ) (from to k : ℕ) → from + k < to
+    → set (sets l to (take k (drop from l))) (to + k) (getD (sets l to (take k (drop from l))) (from + k) 0) ≡ sets l to (take (k + 1) (drop from l))
+copy-one-more l from to k h = choose (ltb (from + k) (length l)) refl
+  where
+    s : List ℕ
+    s = drop from l
+
+    byte : getD (sets l to (take k s)) (from + k) 0 ≡ getD s k 0
+    byte = getD-sets (take k s) l to (from + k) h ∙ sym (getD-drop from l k 0)
+
+    choose : (t : Bool) → ltb (from + k) (length l) ≡ t → set (sets l to (take k s)) (to + k) (getD (sets l to (take k s)) (from + k) 0) ≡ sets l to (take (k + 1) s)
+    choose true e =
+        let inside : k < length s = simp length-drop (omega (arith, ltb-true (from + k) (length l) e)) in
+        let taken : length (take k s) ≡ k = length-take-le k s (omega arith) in
+        ap (λ (v : ℕ). set (sets l to (take k s)) (to + k) v) byte
+        ∙ ap (λ (n : ℕ). set (sets l to (take k s)) (to + n) (getD s k 0)) (sym taken)
+        ∙ sym (sets-one-more (take k s) l to (getD s k 0))
+        ∙ ap (λ (vs : List ℕ). sets l to vs) (sym (take-suc s k 0 inside) ∙ ap (λ (n : ℕ). take n s) (sym (add-one k)))
+    choose false e =
+        let past : length l ≤ from + k = ltb-false (from + k) (length l) e in
+        let all : length s ≤ k = simp length-drop (omega arith) in
+        set-out (sets l to (take k s)) (to + k) (getD (sets l to (take k s)) (from + k) 0) (simp length-sets (omega arith))
+        ∙ ap (λ (vs : List ℕ). sets l to vs) (take-all k s all ∙ sym (take-all (k + 1) s (omega arith)))
+
+-- what is copied is in the scratchpad
+pub copy-in-scratchpad : (size : ℕ) (body : List ℕ) → targetOffset body + copyLength size body ≤ 32
+unfolding copyLength
+copy-in-scratchpad size body = choose (ltb (endingOffset body) (targetOffset body)) (leb size (target body))
+  where
+    choose : (t u : Bool) → targetOffset body + cond (t || u) 0 (endingOffset body + 1 - targetOffset body) ≤ 32
+    choose true u = omega arith
+    choose false true = omega arith
+    choose false false = omega arith
