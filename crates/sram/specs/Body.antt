@@ -60,9 +60,9 @@ unfoldable pub copyBytes : ℕ → List ℕ → List ℕ
 copyBytes size body = take (copyLength size body) (drop (scratchpad + targetOffset body) body)
 
 -- go to memory at the target
-unfoldable pub copied : ℕ → List ℕ → List ℕ
-copied size body = sets body (memory + target body) (copyBytes size body)
+unfoldable pub copyToMemory : ℕ → List ℕ → List ℕ
+copyToMemory size body = sets body (memory + target body) (copyBytes size body)
 
 -- and AA is set
 unfoldable pub acceptCopy : ℕ → List ℕ → List ℕ
-acceptCopy size body = putBit (copied size body) aa true
+acceptCopy size body = putBit (copyToMemory size body) aa true

@@ -5,7 +5,7 @@ use line::MemoryStage;
 use line::SramStage;
 use line::Stage;
 ghost use mathlib.Core.Path.{_≡_};
-ghost use Rattle.sram.specs.Body.{endingOffset, target, targetOffset, loadTarget, beginByte, writeBit, endData, copyLength, copied, acceptCopy};
+ghost use Rattle.sram.specs.Body.{endingOffset, target, targetOffset, loadTarget, beginByte, writeBit, endData, copyLength, copyToMemory, acceptCopy};
 ghost use Rattle.sram.specs.Sram.{inSram, sramRange, sramCommand, afterWriteAddress, addressWrite, afterWriteData, afterReadRegisters, afterReadScratchpad, patternSame, afterPattern, patternWrite, readFrom, afterReadAddress, afterReadMemory, sramSends, sramStep, sramWrite, sramReset};
 
 // The flags of E/S, by their bit of the body.
@@ -267,7 +267,7 @@ fn copy_length(size: u16, body: &[u8]) -> u8
 
 // Copies the bytes of the scratchpad from T4:T0 through the ending offset to memory at the target.
 fn copy(size: u16, body: &mut [u8])
-    ensures { λ r. ⌜ now (body .exit) ≡ copied size (now (body .entry)) ⌝ }
+    ensures { λ r. ⌜ now (body .exit) ≡ copyToMemory size (now (body .entry)) ⌝ }
 {
     let from = kind::SCRATCHPAD + target_offset(body) as usize;
     let to = kind::MEMORY + target(body) as usize;

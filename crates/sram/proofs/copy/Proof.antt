@@ -6,7 +6,7 @@ use Prim.Native.Nat.{ℕ}
 use Rattle.sram.specs.Body.{copyLength}
 use borrow.Author.Needs.{needs}
 use Rattle.sram.proofs.Laws.{copy-one-more, copy-in-scratchpad}
-use Rattle.sram.specs.Body.{copyBytes, copied}
+use Rattle.sram.specs.Body.{copyBytes, copyToMemory}
 use lib.Seq.{sets}
 use lib.ListN.{length, take, drop}
 use native.Mathlib.Omega.{arith}
@@ -46,7 +46,7 @@ cast-n : tie.Need-cast-n Inv-loop μ-loop
 cast-n c = search needs
 
 loop-holds : tie.Need-loop-holds Inv-loop μ-loop
-unfolding copied copyBytes copyLength
+unfolding copyToMemory copyBytes copyLength
 loop-holds c = (omega arith, refl, refl)
 
 add-byte-at : tie.Need-add-byte-at Inv-loop μ-loop
@@ -86,7 +86,7 @@ same-length : tie.Need-same-length Inv-loop μ-loop
 same-length c = search needs
 
 returns : tie.Need-returns Inv-loop μ-loop
-unfolding copied copyBytes
+unfolding copyToMemory copyBytes
 returns c =
     let l = c .before .loop in
     let e : l .k ≡ c .before .before .copy-length .result = omega arith in
