@@ -41,6 +41,7 @@ fn command(value: u8) -> Stage
     }
 }
 
+// A bit of the command: the eighth decides.
 fn after_command(bits: u8, value: u8, level: bool) -> Stage
     ensures { λ r. ⌜ r ≡ afterCommand bits value level ⌝ }
 {
@@ -55,6 +56,7 @@ fn after_command(bits: u8, value: u8, level: bool) -> Stage
     }
 }
 
+// A code bit was sent.
 fn after_read(at: u8) -> Stage
     ensures { λ r. ⌜ r ≡ afterRead at ⌝ }
 {
@@ -65,6 +67,7 @@ fn after_read(at: u8) -> Stage
     }
 }
 
+// A code bit was compared with a level.
 fn after_match(at: u8, same: bool) -> Stage
     ensures { λ r. ⌜ r ≡ afterMatch at same ⌝ }
 {
@@ -78,6 +81,7 @@ fn after_match(at: u8, same: bool) -> Stage
     }
 }
 
+// A code bit was compared with the master's direction.
 fn after_direction(at: u8, same: bool) -> Stage
     ensures { λ r. ⌜ r ≡ afterDirection at same ⌝ }
 {
@@ -94,6 +98,7 @@ fn after_direction(at: u8, same: bool) -> Stage
     }
 }
 
+// One of the three slots of a code bit in search ROM.
 fn after_search(at: u8, slot: SearchSlot, same: bool) -> Stage
     ensures { λ r. ⌜ r ≡ afterSearch at slot same ⌝ }
 {
@@ -125,6 +130,7 @@ pub fn step(r: RomStage, body: &[u8], level: bool) -> Stage
     }
 }
 
+// The level sent in one of the three slots.
 fn search_sends(slot: SearchSlot, bit: bool) -> bool
     ensures { λ b. ⌜ b ≡ searchSends slot bit ⌝ }
 {

@@ -1,5 +1,5 @@
 -- Document 01, 'DS1992/DS1993 memory stage': the level that a device sends in a slot, its stage after one, and the body after a slot or a
--- reset. Bits of TA1, TA2, E/S and of the scratchpad and the memory follow each other; "then ones" is waiting for a reset.
+-- reset. A device that sends ones until a reset is waiting.
 use Prim.Native.Nat.{ℕ, _+_, _*_, _%_}
 use mathlib.Core.Bool.{Bool, true, false, cond, _&&_, Bool·beq}
 use mathlib.Core.List.{List}
@@ -14,6 +14,7 @@ use Rattle.line.specs.declared.Stage.the-variants.{Memory}
 use Rattle.line.specs.Names.{waiting}
 use Rattle.sram.specs.Body.{targetOffset, loadTarget, writeBit, endData, acceptCopy}
 
+-- a stage of the DS1992/DS1993 memory stage as a stage of a device
 abbrev pub inSram : SramStage → Stage
 inSram s = Memory (Sram s)
 
@@ -42,27 +43,32 @@ sramCommand value =
 abbrev pub writeFrom : ℕ → Stage
 writeFrom address = inSram (WriteData (8 * (address % 32)))
 
+-- 16 address bits
 unfoldable pub afterWriteAddress : ℕ → ℕ → Bool → Stage
 afterWriteAddress bits value level =
     cond (ltb bits 15) (inSram (WriteAddress (bits + 1) (shiftIn 16 value level))) (writeFrom (shiftIn 16 value level))
 
+-- the registers load on the 16th only
 unfoldable pub addressWrite : ℕ → ℕ → List ℕ → Bool → List ℕ
 addressWrite bits value body level = cond (ltb bits 15) body (loadTarget (shiftIn 16 value level) body)
 
+-- a data bit; after offset 31 is complete, `at` 256, the place stays
 unfoldable pub afterWriteData : ℕ → Stage
 afterWriteData at = cond (ltb at 256) (inSram (WriteData (at + 1))) (inSram (WriteData at))
 
 -- ---- read scratchpad: TA1, TA2, E/S, the scratchpad from T4:T0 to offset 31, then ones
 
+-- the 24 bits of the registers, then the scratchpad
 unfoldable pub afterReadRegisters : ℕ → List ℕ → Stage
 afterReadRegisters at body = cond (ltb at 23) (inSram (ReadRegisters (at + 1))) (inSram (ReadScratchpad (8 * targetOffset body)))
 
+-- the scratchpad's bits to the last, then ones
 unfoldable pub afterReadScratchpad : ℕ → Stage
 afterReadScratchpad at = cond (ltb at 255) (inSram (ReadScratchpad (at + 1))) waiting
 
 -- ---- copy scratchpad: 24 bits, compared with TA1, TA2, E/S after the last
 
--- whether the bits so far are those of the registers
+-- whether this bit and those before it are the registers'
 unfoldable pub patternSame : ℕ → Bool → List ℕ → Bool → Bool
 patternSame at same body level = same && Bool·beq (bitAt body (8 * ta1 + at)) level
 
@@ -70,19 +76,22 @@ patternSame at same body level = same && Bool·beq (bitAt body (8 * ta1 + at)) l
 unfoldable pub afterPattern : ℕ → Bool → Stage
 afterPattern at same = cond (ltb at 23) (inSram (CopyPattern (at + 1) same)) (cond same (inSram Copied) waiting)
 
+-- only the 24th bit of an equal pattern changes the body
 unfoldable pub patternWrite : ℕ → Bool → ℕ → List ℕ → List ℕ
 patternWrite at same size body = cond (ltb at 23) body (cond same (acceptCopy size body) body)
 
 -- ---- read memory: 16 address bits, then memory from there; past the end, ones
 
--- the 16th address bit
+-- the address of the first byte that is read
 unfoldable pub readFrom : ℕ → ℕ → Stage
 readFrom size address = cond (ltb address size) (inSram (ReadMemory (8 * address))) waiting
 
+-- 16 address bits
 unfoldable pub afterReadAddress : ℕ → ℕ → ℕ → Bool → Stage
 afterReadAddress bits value size level =
     cond (ltb bits 15) (inSram (ReadAddress (bits + 1) (shiftIn 16 value level))) (readFrom size (shiftIn 16 value level))
 
+-- the memory's bits to the last, then ones
 unfoldable pub afterReadMemory : ℕ → ℕ → Stage
 afterReadMemory at size = cond (ltb (at + 1) (8 * size)) (inSram (ReadMemory (at + 1))) waiting
 

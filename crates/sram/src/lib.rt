@@ -5,7 +5,7 @@ use line::MemoryStage;
 use line::SramStage;
 use line::Stage;
 ghost use mathlib.Core.Path.{_≡_};
-ghost use Rattle.sram.specs.Body.{endingOffset, target, targetOffset, loadTarget, beginByte, writeBit, endData, copyLength, copyToMemory, acceptCopy};
+ghost use Rattle.sram.specs.Body.{target, targetOffset, loadTarget, beginByte, writeBit, endData, copyLength, copyToMemory, acceptCopy};
 ghost use Rattle.sram.specs.Sram.{inSram, sramRange, sramCommand, afterWriteAddress, addressWrite, afterWriteData, afterReadRegisters, afterReadScratchpad, patternSame, afterPattern, patternWrite, readFrom, afterReadAddress, afterReadMemory, sramSends, sramStep, sramWrite, sramReset};
 
 // The flags of E/S, by their bit of the body.
@@ -31,6 +31,7 @@ pub fn in_range(s: SramStage, size: u16) -> bool
     }
 }
 
+// A stage of this crate as a stage of a device.
 fn in_sram(s: SramStage) -> Stage
     ensures { λ r. ⌜ r ≡ inSram s ⌝ }
 {
@@ -68,6 +69,7 @@ pub fn sends(s: SramStage, body: &[u8]) -> bool
 
 // ---- the stage after a slot
 
+// An address bit of write scratchpad: after the 16th come the data bits, from T4:T0 on.
 fn after_write_address(bits: u8, value: u16, level: bool) -> Stage
     ensures { λ r. ⌜ r ≡ afterWriteAddress bits value level ⌝ }
 {
@@ -84,6 +86,7 @@ fn after_write_address(bits: u8, value: u16, level: bool) -> Stage
     }
 }
 
+// A data bit: after offset 31 is complete the place stays.
 fn after_write_data(at: u16) -> Stage
     ensures { λ r. ⌜ r ≡ afterWriteData at ⌝ }
 {
@@ -101,6 +104,7 @@ fn target_offset(body: &[u8]) -> u8
     bits::byte_at(body, kind::TA1) % 32
 }
 
+// A bit of TA1, TA2 or E/S was sent: after the last comes the scratchpad, from T4:T0 on.
 fn after_read_registers(at: u8, body: &[u8]) -> Stage
     ensures { λ r. ⌜ r ≡ afterReadRegisters at (now (body .entry)) ⌝ }
 {
@@ -114,6 +118,7 @@ fn after_read_registers(at: u8, body: &[u8]) -> Stage
     }
 }
 
+// A bit of the scratchpad was sent: after offset 31 come ones.
 fn after_read_scratchpad(at: u16) -> Stage
     ensures { λ r. ⌜ r ≡ afterReadScratchpad at ⌝ }
 {
@@ -124,13 +129,14 @@ fn after_read_scratchpad(at: u16) -> Stage
     }
 }
 
-// Whether a pattern is that of the registers, up to and with bit `at`, if it was up to that bit.
+// Whether the pattern's bits are those of the registers, `same` for the bits before this one. Every flag counts.
 fn pattern_same(at: u8, same: bool, body: &[u8], level: bool) -> bool
     ensures { λ r. ⌜ r ≡ patternSame at same (now (body .entry)) level ⌝ }
 {
     same & (bits::bit_at(body, 8 * kind::TA1 + at as usize) == level)
 }
 
+// A bit of the pattern: the 24th decides.
 fn after_pattern(at: u8, same: bool) -> Stage
     ensures { λ r. ⌜ r ≡ afterPattern at same ⌝ }
 {
@@ -144,7 +150,7 @@ fn after_pattern(at: u8, same: bool) -> Stage
     }
 }
 
-// The 16th address bit of read memory.
+// The 16th address bit of read memory: memory from there, or ones past the end.
 fn read_from(size: u16, address: u16) -> Stage
     ensures { λ r. ⌜ r ≡ readFrom size address ⌝ }
 {
@@ -157,6 +163,7 @@ fn read_from(size: u16, address: u16) -> Stage
     }
 }
 
+// An address bit of read memory.
 fn after_read_address(bits: u8, value: u16, size: u16, level: bool) -> Stage
     ensures { λ r. ⌜ r ≡ afterReadAddress bits value size level ⌝ }
 {
@@ -171,6 +178,7 @@ fn after_read_address(bits: u8, value: u16, size: u16, level: bool) -> Stage
     }
 }
 
+// A bit of the memory was sent: after the last come ones.
 fn after_read_memory(at: u32, size: u16) -> Stage
     ensures { λ r. ⌜ r ≡ afterReadMemory at size ⌝ }
 {
@@ -202,7 +210,7 @@ pub fn step(s: SramStage, size: u16, body: &[u8], level: bool) -> Stage
 
 // ---- the body after a slot
 
-// The 16th address bit of write scratchpad.
+// The 16th address bit of write scratchpad loads the registers.
 fn load_target(address: u16, body: &mut [u8])
     ensures { λ r. ⌜ now (body .exit) ≡ loadTarget address (now (body .entry)) ⌝ }
 {
@@ -211,6 +219,7 @@ fn load_target(address: u16, body: &mut [u8])
     bits::put_byte(body, kind::ES, (address % 32) as u8);
 }
 
+// An address bit of write scratchpad: those before the 16th change nothing.
 fn write_address(bits: u8, value: u16, body: &mut [u8], level: bool)
     ensures { λ r. ⌜ now (body .exit) ≡ addressWrite bits value (now (body .entry)) level ⌝ }
 {
@@ -230,7 +239,7 @@ fn begin_byte(at: u16, body: &mut [u8])
     }
 }
 
-// A data bit: bit `at` of the scratchpad, or one too many.
+// A data bit is stored; one after offset 31 is complete only sets OF.
 fn write_bit(at: u16, body: &mut [u8], level: bool)
     ensures { λ r. ⌜ now (body .exit) ≡ writeBit at (now (body .entry)) level ⌝ }
 {
@@ -242,6 +251,7 @@ fn write_bit(at: u16, body: &mut [u8], level: bool)
     }
 }
 
+// The target address.
 fn target(body: &[u8]) -> u16
     ensures { λ r. ⌜ r ≡ target (now (body .entry)) ⌝ }
 {
@@ -250,7 +260,7 @@ fn target(body: &[u8]) -> u16
     low as u16 + 256 * high as u16
 }
 
-// How many bytes a copy writes.
+// How many bytes a copy writes: none if the ending offset is below T4:T0 or the target is past memory.
 fn copy_length(size: u16, body: &[u8]) -> u8
     ensures { λ r. ⌜ r ≡ copyLength size (now (body .entry)) ⌝ }
 {
@@ -265,7 +275,7 @@ fn copy_length(size: u16, body: &[u8]) -> u8
     end + 1 - offset
 }
 
-// Copies the bytes of the scratchpad from T4:T0 through the ending offset to memory at the target.
+// The copy: the scratchpad from T4:T0 through the ending offset goes to memory at the target. The two parts of the body do not overlap.
 fn copy(size: u16, body: &mut [u8])
     ensures { λ r. ⌜ now (body .exit) ≡ copyToMemory size (now (body .entry)) ⌝ }
 {
@@ -280,6 +290,7 @@ fn copy(size: u16, body: &mut [u8])
     }
 }
 
+// An equal pattern: the copy is made, and AA is set even if no byte was written.
 fn accept_copy(size: u16, body: &mut [u8])
     ensures { λ r. ⌜ now (body .exit) ≡ acceptCopy size (now (body .entry)) ⌝ }
 {
@@ -287,6 +298,7 @@ fn accept_copy(size: u16, body: &mut [u8])
     bits::put_bit(body, AA, true);
 }
 
+// A bit of the pattern: those before the 24th change nothing.
 fn write_pattern(at: u8, same: bool, size: u16, body: &mut [u8])
     ensures { λ r. ⌜ now (body .exit) ≡ patternWrite at same size (now (body .entry)) ⌝ }
 {
@@ -319,6 +331,7 @@ pub fn write(s: SramStage, size: u16, body: &mut [u8], level: bool)
 
 // ---- the body after a reset
 
+// A reset after 1 to 7 bits of a data byte, OF clear, sets PF.
 fn end_data(at: u16, body: &mut [u8])
     ensures { λ r. ⌜ now (body .exit) ≡ endData at (now (body .entry)) ⌝ }
 {
