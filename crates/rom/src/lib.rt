@@ -5,6 +5,9 @@ use line::Stage;
 ghost use mathlib.Core.Path.{_≡_};
 ghost use Rattle.rom.specs.Rom.{romRange, addressed, romCommand, afterCommand, afterRead, afterMatch, afterDirection, afterSearch, romStep, searchSends, romSends};
 
+// The last of the 64 code bits.
+const LAST_BIT: u8 = 63;
+
 // Whether the numbers of a ROM stage are in its range.
 pub fn in_range(r: RomStage) -> bool
     ensures { λ b. ⌜ b ≡ romRange r ⌝ }
@@ -60,7 +63,7 @@ fn after_command(bits: u8, value: u8, level: bool) -> Stage
 fn after_read(at: u8) -> Stage
     ensures { λ r. ⌜ r ≡ afterRead at ⌝ }
 {
-    if at < 63 {
+    if at < LAST_BIT {
         Stage::Rom(RomStage::Read { at: at + 1 })
     } else {
         addressed()
@@ -74,7 +77,7 @@ fn after_match(at: u8, same: bool) -> Stage
     if !same {
         return line::waiting();
     }
-    if at < 63 {
+    if at < LAST_BIT {
         Stage::Rom(RomStage::Match { at: at + 1 })
     } else {
         addressed()
@@ -88,7 +91,7 @@ fn after_direction(at: u8, same: bool) -> Stage
     if !same {
         return line::waiting();
     }
-    if at < 63 {
+    if at < LAST_BIT {
         Stage::Rom(RomStage::Search {
             at: at + 1,
             slot: SearchSlot::Bit,

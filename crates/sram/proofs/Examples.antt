@@ -15,18 +15,21 @@ use Rattle.sram.specs.Sram.{sramCommand, afterWriteAddress, addressWrite
 
 -- ---- a device in this memory stage, or waiting after it
 
+-- the level that it sends in a slot
 abbrev sends : Stage → List ℕ → Bool
 sends (Rom r) body = true
 sends (Memory (Command bits value)) body = true
 sends (Memory (Sram s)) body = sramSends s body
 sends (Memory (Eprom e)) body = true
 
+-- its stage after a slot
 abbrev next : Stage → ℕ → List ℕ → Bool → Stage
 next (Rom r) size body level = Rom r
 next (Memory (Command bits value)) size body level = Memory (Command bits value)
 next (Memory (Sram s)) size body level = sramStep s size body level
 next (Memory (Eprom e)) size body level = Memory (Eprom e)
 
+-- its body after a slot, and after a reset
 abbrev written : Stage → ℕ → List ℕ → Bool → List ℕ
 written (Rom r) size body level = body
 written (Memory (Command bits value)) size body level = body
@@ -78,6 +81,7 @@ record Row : Type 0 where
   place : ℕ
   bytes : List ℕ
 
+-- equal lists
 abbrev sameLevels : List Bool → List Bool → Bool
 sameLevels [] [] = true
 sameLevels [] (y ∷ ys) = false
@@ -90,6 +94,7 @@ sameBytes [] (y ∷ ys) = false
 sameBytes (x ∷ xs) [] = false
 sameBytes (x ∷ xs) (y ∷ ys) = eqb x y && sameBytes xs ys
 
+-- every level of the line is as said, and so are the bytes at the end
 abbrev right : ℕ → List ℕ → List Function → ℕ → List ℕ → Bool
 right size body [] place bytes = sameBytes (take (length bytes) (drop place body)) bytes
 right size body (f ∷ fs) place bytes =
@@ -100,7 +105,7 @@ abbrev every : List Row → Bool
 every [] = true
 every (r ∷ rs) = right (r .size) (r .body) (r .functions) (r .place) (r .bytes) && every rs
 
--- a DS1992 with nothing stored; a DS1993 with 5Ah as its last byte
+-- rows for a DS1992 with nothing stored, and for a DS1993 with 5Ah as its last byte
 abbrev ds1992 : List Function → ℕ → List ℕ → Row
 ds1992 functions place bytes = record { size = 128; body = replicate (memory + 128) 0; functions = functions; place = place; bytes = bytes }
 
@@ -120,6 +125,7 @@ copy pattern byte = record { command = 0x55; sent = levels (pattern ++ 0xFF ∷ 
 abbrev read : List ℕ → List ℕ → Function
 read address bytes = record { command = 0xF0; sent = levels (address ++ 0xFF ∷ 0xFF ∷ []); answered = levels (address ++ bytes) }
 
+-- target 0026h, two bytes; and their copy
 abbrev twoBytes : Function
 twoBytes = write (levels (0x26 ∷ 0x00 ∷ 0x11 ∷ 0x22 ∷ []))
 
@@ -147,7 +153,7 @@ table =
     ∷ ds1993 (read (0xFF ∷ 0x01 ∷ []) (0x5A ∷ 0xFF ∷ []) ∷ read (0x00 ∷ 0x02 ∷ []) (0xFF ∷ 0xFF ∷ []) ∷ []) (memory + 511) (0x5A ∷ [])
     ∷ []
 
-pub examples : every table ≡ true
+examples : every table ≡ true
 unfolding bitOf bitAt atLevel withBit putBit shiftIn loadTarget beginByte writeBit endData copyLength copyBytes copyToMemory acceptCopy
     sramCommand afterWriteAddress addressWrite afterWriteData afterReadRegisters afterReadScratchpad patternSame afterPattern patternWrite
     readFrom afterReadAddress afterReadMemory sramSends sramStep sramWrite sramReset

@@ -243,12 +243,12 @@ fn begin_byte(at: u16, body: &mut [u8])
 fn write_bit(at: u16, body: &mut [u8], level: bool)
     ensures { λ r. ⌜ now (body .exit) ≡ writeBit at (now (body .entry)) level ⌝ }
 {
-    if at < 256 {
-        begin_byte(at, body);
-        bits::put_bit(body, 8 * kind::SCRATCHPAD + at as usize, level);
-    } else {
+    if 256 <= at {
         bits::put_bit(body, OF, true);
+        return;
     }
+    begin_byte(at, body);
+    bits::put_bit(body, 8 * kind::SCRATCHPAD + at as usize, level);
 }
 
 // The target address.
@@ -335,7 +335,8 @@ pub fn write(s: SramStage, size: u16, body: &mut [u8], level: bool)
 fn end_data(at: u16, body: &mut [u8])
     ensures { λ r. ⌜ now (body .exit) ≡ endData at (now (body .entry)) ⌝ }
 {
-    if at % 8 == 0 {
+    let sent = at % 8;
+    if sent == 0 {
         return;
     }
     if bits::bit_at(body, OF) {
