@@ -1,3 +1,4 @@
+-- `sram::copy` meets its contract. The invariant: the first k bytes are copied. Assumes nothing.
 use Rattle.kind.specs.Kind.{scratchpad, memory}
 use lib.ListN.{getD, set, length-set}
 use mathlib.Core.Path.{ap, _∙_}
