@@ -1,0 +1,7 @@
+pub mod Slots
+pub mod Reading
+pub mod Viewing
+pub mod Writing
+pub mod Several
+pub mod Range
+pub mod Examples
