@@ -1,12 +1,12 @@
 -- Laws of successive slots: what a device sends whatever it hears, and what it takes from the line. Assumes nothing.
 use Prim.Native.Nat.{ℕ, zero, suc, _+_, _-_, _*_, _/_, _%_, _^_, _<_}
 use mathlib.Core.Path.{_≡_, refl, sym, ap, _∙_}
-use mathlib.Core.Bool.{Bool, true}
+use mathlib.Core.Bool.{Bool, true, cond}
 use mathlib.Core.List.{List, [], _∷_, _++_}
 use native.Mathlib.Omega.{arith}
 use native.Mathlib.Nat.{mul-add, mul-assoc, pow-succ', div-div-eq-div-mul}
 use native.Mathlib.Numerals.{add-one}
-use lib.Dec.{eqb}
+use lib.Dec.{eqb, ltb}
 use lib.ListN.{length, replicate, take}
 use lib.Pow.{mod-pow-add, shr-shr}
 use borrow.Author.Tests.{lt-ltb, le-ltb}
@@ -127,29 +127,24 @@ left-next : (byte k : ℕ) → byte / 2 ^ (k + 1) ≡ byte / 2 ^ k / 2
 left-next byte k = sym (shr-shr byte k 1)
 
 module _ (body : List ℕ) where
-  -- a CRC, from bit k of it on
-  crc-bits-sent : (n : ℕ) (read : EpromRead) (a k r : ℕ) → k + n ≡ 7
-      → Sends body (inEprom (ReadCrc read a k r)) (lowBits (suc n) r) (afterCrc read a)
-  unfolding lowBits epromSends epromStep readCrcStep
-  crc-bits-sent zero read a k r h = last (ReadCrc read a k r) refl (λ l. simp (le-ltb k 7 (omega arith)))
-  crc-bits-sent (suc n) read a k r h =
-      one (ReadCrc read a k r) (crc-bits-sent n read a (k + 1) (r / 2) (omega arith))
-      refl (λ l. simp (lt-ltb k 7 (omega arith)))
+  -- a CRC, by any stage that shifts a register out
+  module _ (f : ℕ → ℕ → EpromStage) (end : Stage) (low : (k r : ℕ) → epromSends (f k r) body ≡ bitOf r 0)
+      (shifts : (k r : ℕ) (l : Bool) → epromStep (f k r) body l ≡ cond (ltb k 7) (inEprom (f (k + 1) (r / 2))) end) where
+    register-bits-sent : (n k r : ℕ) → k + n ≡ 7 → Sends body (inEprom (f k r)) (lowBits (suc n) r) end
+    unfolding lowBits
+    register-bits-sent zero k r h = last (f k r) (low k r) (λ l. shifts k r l ∙ simp (le-ltb k 7 (omega arith)))
+    register-bits-sent (suc n) k r h =
+        one (f k r) (register-bits-sent n (k + 1) (r / 2) (omega arith)) (low k r) (λ l. shifts k r l ∙ simp (lt-ltb k 7 (omega arith)))
 
   pub crc-sent : (read : EpromRead) (a r : ℕ) → Sends body (inEprom (ReadCrc read a 0 r)) (lowBits 8 r) (afterCrc read a)
-  crc-sent read a r = crc-bits-sent 7 read a 0 r refl
-
-  write-crc-bits-sent : (n : ℕ) (field : Field) (a byte k r : ℕ) → k + n ≡ 7
-      → Sends body (inEprom (WriteCrc field a byte k r)) (lowBits (suc n) r) (inEprom (PulseDue field a byte))
-  unfolding lowBits epromSends epromStep writeCrcStep
-  write-crc-bits-sent zero field a byte k r h = last (WriteCrc field a byte k r) refl (λ l. simp (le-ltb k 7 (omega arith)))
-  write-crc-bits-sent (suc n) field a byte k r h =
-      one (WriteCrc field a byte k r) (write-crc-bits-sent n field a byte (k + 1) (r / 2) (omega arith))
-      refl (λ l. simp (lt-ltb k 7 (omega arith)))
+  unfolding epromSends epromStep readCrcStep
+  crc-sent read a r = register-bits-sent (ReadCrc read a) (afterCrc read a) (λ k r. refl) (λ k r l. refl) 7 0 r refl
 
   pub write-crc-sent : (field : Field) (a byte r : ℕ)
       → Sends body (inEprom (WriteCrc field a byte 0 r)) (lowBits 8 r) (inEprom (PulseDue field a byte))
-  write-crc-sent field a byte r = write-crc-bits-sent 7 field a byte 0 r refl
+  unfolding epromSends epromStep writeCrcStep
+  write-crc-sent field a byte r =
+      register-bits-sent (WriteCrc field a byte) (inEprom (PulseDue field a byte)) (λ k r. refl) (λ k r l. refl) 7 0 r refl
 
   -- a byte of a read, from bit k of it on; the register shifts it in
   byte-bits-sent : (n : ℕ) (read : EpromRead) (a k r : ℕ) → k + n ≡ 7
@@ -250,24 +245,36 @@ crc-taken (suc n) register byte = crc-taken n (crcBit register (bitOf byte 0)) (
 
 -- while it listens it answers 1
 module _ (body : List ℕ) where
-  read-address-bits : (read : EpromRead) (ls : List Bool) (k x : ℕ) → k < 16 → k + length ls ≡ 16
-      → Over (inEprom (ReadAddress read k x)) body (slots ls) (replicate (length ls) true) (readLatch read (shiftAll 16 x ls)) body
-  unfolding slots shiftAll epromSends epromStep readAddressStep
-  read-address-bits read [] k x h e = absurd (omega arith)
-  read-address-bits read (l ∷ []) k x h e = one-slot (ReadAddress read k x) nothing refl (simp (le-ltb k 15 (omega arith)))
-  read-address-bits read (l ∷ m ∷ ls) k x h e =
-      one-slot (ReadAddress read k x) (read-address-bits read (m ∷ ls) (k + 1) (shiftIn 16 x l) (omega arith) (omega arith))
-      refl (simp (lt-ltb k 15 (omega arith)))
+  -- an address, by any stage that shifts it in
+  module _ (f : ℕ → ℕ → EpromStage) (end : ℕ → Stage) (listens : (k x : ℕ) → epromSends (f k x) body ≡ true)
+      (shifts : (k x : ℕ) (l : Bool)
+      → epromStep (f k x) body l ≡ cond (ltb k 15) (inEprom (f (k + 1) (shiftIn 16 x l))) (end (shiftIn 16 x l))) where
+    address-bits-heard : (ls : List Bool) (k x : ℕ) → k < 16 → k + length ls ≡ 16
+        → Over (inEprom (f k x)) body (slots ls) (replicate (length ls) true) (end (shiftAll 16 x ls)) body
+    unfolding slots shiftAll
+    address-bits-heard [] k x h e = absurd (omega arith)
+    address-bits-heard (l ∷ []) k x h e = one-slot (f k x) nothing (listens k x) (shifts k x l ∙ simp (le-ltb k 15 (omega arith)))
+    address-bits-heard (l ∷ m ∷ ls) k x h e =
+        one-slot (f k x) (address-bits-heard (m ∷ ls) (k + 1) (shiftIn 16 x l) (omega arith) (omega arith))
+        (listens k x) (shifts k x l ∙ simp (lt-ltb k 15 (omega arith)))
 
-  write-address-bits : (field : Field) (ls : List Bool) (k x : ℕ) → k < 16 → k + length ls ≡ 16
-      → Over (inEprom (WriteAddress field k x)) body (slots ls) (replicate (length ls) true) (writeLatch field (shiftAll 16 x ls)) body
-  unfolding slots shiftAll epromSends epromStep writeAddressStep
-  write-address-bits field [] k x h e = absurd (omega arith)
-  write-address-bits field (l ∷ []) k x h e = one-slot (WriteAddress field k x) nothing refl (simp (le-ltb k 15 (omega arith)))
-  write-address-bits field (l ∷ m ∷ ls) k x h e =
-      one-slot (WriteAddress field k x) (write-address-bits field (m ∷ ls) (k + 1) (shiftIn 16 x l) (omega arith) (omega arith))
-      refl (simp (lt-ltb k 15 (omega arith)))
+    address-heard : (address : ℕ) → address < 65536
+        → Over (inEprom (f 0 0)) body (slots (lineBits (addressBytes address))) (replicate 16 true) (end address) body
+    address-heard address h =
+        let n = address-bits address in
+        rw (address-taken address h, n) at (address-bits-heard (lineBits (addressBytes address)) 0 0 (omega arith) (omega arith))
 
+  pub read-address-heard : (read : EpromRead) (address : ℕ) → address < 65536
+      → Over (readStart read) body (slots (lineBits (addressBytes address))) (replicate 16 true) (readLatch read address) body
+  unfolding epromSends epromStep readAddressStep
+  read-address-heard read = address-heard (ReadAddress read) (readLatch read) (λ k x. refl) (λ k x l. refl)
+
+  pub write-address-heard : (field : Field) (address : ℕ) → address < 65536
+      → Over (writeStart field) body (slots (lineBits (addressBytes address))) (replicate 16 true) (writeLatch field address) body
+  unfolding epromSends epromStep writeAddressStep
+  write-address-heard field = address-heard (WriteAddress field) (writeLatch field) (λ k x. refl) (λ k x l. refl)
+
+  -- the bits of a data byte
   data-bits : (field : Field) (a : ℕ) (ls : List Bool) (k x r : ℕ) → k < 8 → k + length ls ≡ 8
       → Over (inEprom (WriteData field a k x r)) body (slots ls) (replicate (length ls) true)
       (inEprom (WriteCrc field a (shiftAll 8 x ls) 0 (crcAll r ls))) body
@@ -277,19 +284,6 @@ module _ (body : List ℕ) where
   data-bits field a (l ∷ m ∷ ls) k x r h e =
       one-slot (WriteData field a k x r) (data-bits field a (m ∷ ls) (k + 1) (shiftIn 8 x l) (crcBit r l) (omega arith) (omega arith))
       refl (simp (lt-ltb k 7 (omega arith)))
-
-  -- an address
-  pub read-address-heard : (read : EpromRead) (address : ℕ) → address < 65536
-      → Over (readStart read) body (slots (lineBits (addressBytes address))) (replicate 16 true) (readLatch read address) body
-  read-address-heard read address h =
-      let n = address-bits address in
-      rw (address-taken address h, n) at (read-address-bits read (lineBits (addressBytes address)) 0 0 (omega arith) (omega arith))
-
-  pub write-address-heard : (field : Field) (address : ℕ) → address < 65536
-      → Over (writeStart field) body (slots (lineBits (addressBytes address))) (replicate 16 true) (writeLatch field address) body
-  write-address-heard field address h =
-      let n = address-bits address in
-      rw (address-taken address h, n) at (write-address-bits field (lineBits (addressBytes address)) 0 0 (omega arith) (omega arith))
 
   -- a data byte, and the register takes it in
   pub data-heard : (field : Field) (a r d : ℕ) → d < 256
