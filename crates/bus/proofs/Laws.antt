@@ -1,0 +1,199 @@
+-- Laws that the proofs of this crate cite. Assumes nothing.
+use Prim.Native.Nat.{ℕ, zero, suc, _+_, _-_, _*_, _<_, _≤_}
+use mathlib.Core.Path.{_≡_, refl, sym, ap, _∙_}
+use mathlib.Core.Bool.{Bool, true, false, cond, not, _&&_, _||_, or-true, true≢false}
+use mathlib.Core.List.{List, [], _∷_, _++_}
+use native.Mathlib.Omega.{arith}
+use native.Mathlib.Nat.{not-suc-le-zero, le-of-suc-le-suc}
+use native.Mathlib.Numerals.{add-one}
+use lib.ListN.{length, getD, set, take, drop, drop-of-length-le, length-set, length-append, length-drop}
+use lib.Seq.{drop-cons, length-take-le}
+use lib.Dec.{ltb, leb, lit<}
+use borrow.Author.Tests.{leb-true, ltb-false, le-ltb}
+use Rattle.kind.specs.declared.Kind.the-variants.{Unknown}
+use Rattle.kind.specs.Kind.{bodySize}
+use Rattle.image.specs.Image.{countOf, kindAt, offsetAt}
+use Rattle.image.specs.Refusal.{Cause, cause, firstOf, imageCauses, imageRefusal}
+use Rattle.device.specs.declared.LineState.{LineState}
+use Rattle.bus.specs.Refusal.{someByte, badTrace, badPulse, noRoom, runCauses, runRefusal}
+use Rattle.bus.specs.declared.Place.{Place}
+use Rattle.bus.specs.Bus.{eventOf, nextBody}
+use Rattle.bus.specs.Loops.{placeOf, deviceAt, deviceIn, withBody, turnImage, lineAt, servedOf, levelOn, BusState, busState, turnAt, turns, filled, RunState, eventAt, events}
+use Rattle.bus.proofs.Runs.{next-length}
+
+-- ---- the place of a body
+
+-- it lies in the image
+pub record Inside (place : Place) (n : ℕ) : Type 0 where
+  pub rising : place .start ≤ place .end
+  pub within : place .end ≤ n
+
+place-inside-at : (image : List ℕ) (i : ℕ) (a b : Bool) → leb (offsetAt image i + bodySize (kindAt image i)) (length image) ≡ b
+    → Inside (cond (a && b) (record { kind = kindAt image i; start = offsetAt image i; end = offsetAt image i + bodySize (kindAt image i) }) (record { kind = Unknown; start = 0; end = 0 })) (length image)
+place-inside-at image i true true e = record { rising = omega arith; within = leb-true _ _ e }
+place-inside-at image i true false e = record { rising = omega arith; within = omega arith }
+place-inside-at image i false b e = record { rising = omega arith; within = omega arith }
+
+pub place-inside : (image : List ℕ) (i : ℕ) → Inside (placeOf image i) (length image)
+unfolding placeOf
+place-inside image i = place-inside-at image i (ltb i (countOf image)) (leb (offsetAt image i + bodySize (kindAt image i)) (length image)) refl
+
+-- ---- a test at some byte of a trace
+
+pub some-byte : (p : ℕ → Bool) (trace : List ℕ) (k : ℕ) → k < length trace → p (getD trace k 0) ≡ true → someByte p trace ≡ true
+unfolding someByte
+some-byte p [] k h e = absurd (not-suc-le-zero h)
+some-byte p (byte ∷ trace) zero h e = rw e
+some-byte p (byte ∷ trace) (suc k) h e = rw (some-byte p trace k (le-of-suc-le-suc h) e) (or-true (p byte))
+
+-- none so far, and not here either: it is decided by what comes after
+pub none-byte : (p : ℕ → Bool) (trace : List ℕ) (k : ℕ) → k < length trace → p (getD trace k 0) ≡ false → someByte p (drop k trace) ≡ someByte p trace → someByte p (drop (k + 1) trace) ≡ someByte p trace
+unfolding someByte
+none-byte p trace k h e inv = rw add-one (rw (drop-cons trace k 0 h, e) at inv)
+
+pub no-byte : (p : ℕ → Bool) (trace : List ℕ) (k : ℕ) → length trace ≤ k → someByte p (drop k trace) ≡ someByte p trace → false ≡ someByte p trace
+unfolding someByte
+no-byte p trace k h inv = rw (drop-of-length-le trace h) at inv
+
+-- ---- causes in order
+
+-- no cause has the number of what is not refused
+abbrev Numbered : List Cause → Type 0
+Numbered [] = Unit {0}
+Numbered (c ∷ cs) = (0 < c .number) × Numbered cs
+
+-- what the first causes refuse, the others do not change
+some-then : (b : Bool) (n x y : ℕ) → (cond b n y ≡ 0 → ⊥) → ((y ≡ 0 → ⊥) → x ≡ y) → cond b n x ≡ cond b n y
+some-then true n x y h k = refl
+some-then false n x y h k = k h
+
+pub first-some : (cs ds : List Cause) → (firstOf cs ≡ 0 → ⊥) → firstOf (cs ++ ds) ≡ firstOf cs
+unfolding firstOf
+first-some [] ds h = absurd (h refl)
+first-some (c ∷ cs) ds h = some-then (c .applies) (c .number) (firstOf (cs ++ ds)) (firstOf cs) h (first-some cs ds)
+
+-- what they do not refuse, the others decide
+none-then : (b : Bool) (n x y z : ℕ) → 0 < n → cond b n y ≡ 0 → (y ≡ 0 → x ≡ z) → cond b n x ≡ z
+none-then true n x y z m h k = absurd (omega arith)
+none-then false n x y z m h k = k h
+
+first-none : (cs ds : List Cause) → Numbered cs → firstOf cs ≡ 0 → firstOf (cs ++ ds) ≡ firstOf ds
+unfolding firstOf
+first-none [] ds n h = refl
+first-none (c ∷ cs) ds n h = none-then (c .applies) (c .number) (firstOf (cs ++ ds)) (firstOf cs) (firstOf ds) (n .0) h (first-none cs ds (n .1))
+
+-- of an image that is not refused
+pub run-causes : (image trace : List ℕ) (answers lines : ℕ) → imageRefusal image ≡ 0
+    → runRefusal image trace answers lines ≡ cond (badTrace trace) 5 (cond (badPulse image trace) 6 (cond (noRoom image trace answers lines) 7 0))
+unfolding runRefusal runCauses imageCauses imageRefusal firstOf
+run-causes image trace answers lines h =
+    first-none (imageCauses image) (cause 5 (badTrace trace) ∷ cause 6 (badPulse image trace) ∷ cause 7 (noRoom image trace answers lines) ∷ []) (lit< tt, (lit< tt, (lit< tt, (lit< tt, tt)))) h
+
+-- what is not refused: an accepted image, a trace of events that all devices take, and room
+pub record Admitted (image trace : List ℕ) (answers lines : ℕ) : Type 0 where
+  pub image-accepted : imageRefusal image ≡ 0
+  pub trace-good : badTrace trace ≡ false
+  pub pulses-good : badPulse image trace ≡ false
+  pub answers-room : length trace ≤ answers
+  pub lines-room : countOf image ≤ lines
+
+none-first : (cs ds : List Cause) → firstOf (cs ++ ds) ≡ 0 → firstOf cs ≡ 0
+unfolding firstOf
+none-first [] ds h = refl
+none-first (c ∷ cs) ds h = pick (c .applies) (c .number) (firstOf (cs ++ ds)) (firstOf cs) h (none-first cs ds)
+  where
+    pick : (b : Bool) (n x y : ℕ) → cond b n x ≡ 0 → (x ≡ 0 → y ≡ 0) → cond b n y ≡ 0
+    pick true n x y h k = h
+    pick false n x y h k = k h
+
+clear : (a b c : Bool) → _≡_ {A = ℕ} (cond a 5 (cond b 6 (cond c 7 0))) 0 → (a ≡ false) × (b ≡ false) × (c ≡ false)
+clear true b c e = absurd (omega arith)
+clear false true c e = absurd (omega arith)
+clear false false true e = absurd (omega arith)
+clear false false false e = (refl, refl, refl)
+
+neither : (a b : Bool) → (a || b) ≡ false → (a ≡ false) × (b ≡ false)
+neither true b e = absurd (true≢false e)
+neither false b e = (refl, e)
+
+pub admitted : (image trace : List ℕ) (answers lines : ℕ) → runRefusal image trace answers lines ≡ 0 → Admitted image trace answers lines
+unfolding runRefusal runCauses imageRefusal noRoom
+admitted image trace answers lines e =
+    let first : imageRefusal image ≡ 0 = none-first (imageCauses image) (cause 5 (badTrace trace) ∷ cause 6 (badPulse image trace) ∷ cause 7 (noRoom image trace answers lines) ∷ []) e in
+    let rest = clear (badTrace trace) (badPulse image trace) (noRoom image trace answers lines) (sym (run-causes image trace answers lines first) ∙ e) in
+    let room = neither (ltb answers (length trace)) (ltb lines (countOf image)) (rest .2) in
+    record {
+      image-accepted = first;
+      trace-good = rest .0;
+      pulses-good = rest .1;
+      answers-room = ltb-false answers (length trace) (room .0);
+      lines-room = ltb-false lines (countOf image) (room .1);
+    }
+
+-- and back
+pub not-refused : (image trace : List ℕ) (answers lines : ℕ) → Admitted image trace answers lines → runRefusal image trace answers lines ≡ 0
+unfolding noRoom
+not-refused image trace answers lines a =
+    rw (run-causes image trace answers lines (a .image-accepted), a .trace-good, a .pulses-good, le-ltb answers (length trace) (a .answers-room), le-ltb lines (countOf image) (a .lines-room))
+
+-- ---- lengths
+
+pub filled-length : (i : ℕ) (state : LineState) (lines : List LineState) → length (filled i state lines) ≡ length lines
+unfolding filled
+filled-length zero state lines = refl
+filled-length (suc i) state lines = length-set (filled i state lines) i state ∙ filled-length i state lines
+
+with-body-length : (image : List ℕ) (place : Place) (body : List ℕ) → Inside place (length image) → length body ≡ place .end - place .start → length (withBody image place body) ≡ length image
+unfolding withBody
+with-body-length image place body h e =
+    simp (length-append, length-drop, length-take-le (place .start) image (omega (arith, h .rising, h .within)), e) (omega (arith, h .rising, h .within))
+
+turn-image-length : (image : List ℕ) (i : ℕ) (state : LineState) (byte : ℕ) (level : Bool) → length (turnImage image i state byte level) ≡ length image
+unfolding turnImage deviceIn deviceAt
+turn-image-length image i state byte level =
+    let h = place-inside image i in
+    with-body-length image (placeOf image i) (nextBody (eventOf byte) level (deviceIn image i state)) h
+    (next-length (eventOf byte) level (deviceIn image i state)
+    ∙ length-take-le (placeOf image i .end - placeOf image i .start) (drop (placeOf image i .start) image) (rw length-drop (omega (arith, h .rising, h .within))))
+
+pub turns-image-length : (byte : ℕ) (level : Bool) (i : ℕ) (s : BusState) → length (turns byte level i s .image) ≡ length (s .image)
+unfolding turns turnAt
+turns-image-length byte level zero s = refl
+turns-image-length byte level (suc i) s =
+    turn-image-length (turns byte level i s .image) i (lineAt (turns byte level i s .lines) i) byte level ∙ turns-image-length byte level i s
+
+pub turns-lines-length : (byte : ℕ) (level : Bool) (i : ℕ) (s : BusState) → length (turns byte level i s .lines) ≡ length (s .lines)
+unfolding turns turnAt
+turns-lines-length byte level zero s = refl
+turns-lines-length byte level (suc i) s = length-set (turns byte level i s .lines) i _ ∙ turns-lines-length byte level i s
+
+-- ---- how many devices have a line state
+
+served-at : (lines n : ℕ) (b : Bool) → ltb lines n ≡ b → cond b lines n ≤ lines
+served-at lines n true e = omega arith
+served-at lines n false e = ltb-false lines n e
+
+pub served-lines : (image : List ℕ) (lines : ℕ) → servedOf image lines ≤ lines
+unfolding servedOf
+served-lines image lines = served-at lines (countOf image) (ltb lines (countOf image)) refl
+
+-- ---- the run's state
+
+pub events-image-length : (trace : List ℕ) (n k : ℕ) (s : RunState) → length (events trace n k s .image) ≡ length (s .image)
+unfolding events eventAt
+events-image-length trace n zero s = refl
+events-image-length trace n (suc k) s =
+    let before = events trace n k s in
+    turns-image-length (getD trace k 0) (levelOn (before .image) (before .lines) (getD trace k 0)) n (busState (before .image) (before .lines)) ∙ events-image-length trace n k s
+
+pub events-answers-length : (trace : List ℕ) (n k : ℕ) (s : RunState) → length (events trace n k s .answers) ≡ length (s .answers)
+unfolding events eventAt
+events-answers-length trace n zero s = refl
+events-answers-length trace n (suc k) s = length-set (events trace n k s .answers) k _ ∙ events-answers-length trace n k s
+
+pub events-lines-length : (trace : List ℕ) (n k : ℕ) (s : RunState) → length (events trace n k s .lines) ≡ length (s .lines)
+unfolding events eventAt
+events-lines-length trace n zero s = refl
+events-lines-length trace n (suc k) s =
+    let before = events trace n k s in
+    turns-lines-length (getD trace k 0) (levelOn (before .image) (before .lines) (getD trace k 0)) n (busState (before .image) (before .lines)) ∙ events-lines-length trace n k s

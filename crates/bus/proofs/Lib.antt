@@ -1,0 +1,7 @@
+pub mod Again
+pub mod Kept
+pub mod Laws
+pub mod Lines
+pub mod Parts
+pub mod Runs
+pub mod Shown

@@ -1,0 +1,418 @@
+-- Where the image is not refused and there is room, what the loops of `specs/Loops.antt` do is what `specs/Bus.antt` and `specs/Run.antt` say.
+use Prim.Native.Nat.{ℕ, zero, suc, _+_, _-_, _*_, _<_, _≤_}
+use mathlib.Core.Path.{_≡_, refl, sym, ap, subst, _∙_}
+use mathlib.Core.Bool.{Bool, true, false, not, cond, _&&_, _||_}
+use mathlib.Core.List.{List, [], _∷_, _++_, map, append-assoc, append-nil, map-append}
+use native.Mathlib.Omega.{arith}
+use native.Mathlib.Nat.{add-zero}
+use native.Mathlib.Numerals.{add-one}
+use lib.ListN.{length, getD, set, take, drop, replicate, length-append, length-map, length-replicate, take-append-drop, replicate-append-replicate, List·getD-append}
+use lib.Seq.{length-take-le, getD-take, take-at, drop-at, getD-at, set-at, drop-append-add, take-suc, drop-cons, split-at, append-snoc, take-length, drop-length, drop-drop}
+use lib.Dec.{T, ltb, leb, eqb}
+use borrow.Author.Tests.{lt-ltb, le-ltb, le-leb}
+use Rattle.kind.specs.declared.Kind.{Kind}
+use Rattle.kind.specs.declared.Kind.the-variants.{Unknown}
+use Rattle.kind.specs.Kind.{kindOf, bodySize, codeLength}
+use Rattle.image.specs.Image.{countOf, familyAt, offsetAt, kindAt, packedAt, bodyAt, codeAt}
+use Rattle.image.proofs.Accepted.{Known, accepted-known, body-length, body-code}
+use Rattle.device.specs.declared.LineState.{LineState}
+use Rattle.device.specs.Device.{waitingState}
+use Rattle.bus.specs.declared.Event.{Event}
+use Rattle.bus.specs.declared.Event.the-variants.{Slot, Reset, Pulse}
+use Rattle.bus.specs.declared.Place.{Place}
+use Rattle.bus.specs.Bus.{Device, deviceOf, eventOf, someLow, presence, levelOf, nextState, nextBody, nextDevice, busStepAt, busStep, Run, answerOf, withAnswer, runTrace}
+use Rattle.bus.specs.Run.{devicesFrom, waitingDevices, headerOf, bodiesOf, statesOf, outcome, leftBy, runAt, runOf}
+use Rattle.bus.specs.Refusal.{runRefusal}
+use Rattle.bus.specs.Loops.{placeOf, deviceAt, deviceIn, withBody, masterLevel, deviceLevel, turnState, turnImage, lineAt, servedOf, levelWith, levelOn, BusState, busState, turnAt, turns, filled, RunState, runState, eventAt, events}
+use Rattle.bus.proofs.Laws.{admitted}
+use Rattle.bus.proofs.Runs.{runAfter, run-append, run-length, run-same, AllSame, none, also, part-same, same-length, level-more}
+
+-- ---- devices that stand at the entries of an image from i on
+pub record Entered (image : List ℕ) (i : ℕ) (d : Device) : Type 0 where
+  pub kind : d .kind ≡ kindAt image i
+  pub size : length (d .body) ≡ bodySize (kindAt image i)
+  pub code : take codeLength (d .body) ≡ codeAt image i
+
+abbrev pub Stand : List ℕ → ℕ → List Device → Type 0
+Stand image i [] = Unit {0}
+Stand image i (d ∷ ds) = Entered image i d × Stand image (suc i) ds
+
+-- what is the same stands there too
+pub stand-same : {ds es : List Device} (image : List ℕ) (i : ℕ) → AllSame ds es → Stand image i es → Stand image i ds
+stand-same image i none s = tt
+stand-same image i (also a p) s = (record { kind = a .kind ∙ s .0 .kind; size = a .size ∙ s .0 .size; code = a .code ∙ s .0 .code }, stand-same image (suc i) p (s .1))
+
+-- one of them
+stands-at : (image : List ℕ) (i : ℕ) (xs : List Device) (d : Device) (ys : List Device) → Stand image i (xs ++ d ∷ ys) → Entered image (i + length xs) d
+stands-at image i [] d ys s = subst (λ (j : ℕ). Entered image j d) (omega arith) (s .0)
+stands-at image i (x ∷ xs) d ys s = subst (λ (j : ℕ). Entered image j d) (omega arith) (stands-at image (suc i) xs d ys (s .1))
+
+-- where the bodies of the first of them end
+packed-step : (image : List ℕ) (i : ℕ) → packedAt image (suc i) ≡ packedAt image i + bodySize (kindAt image i)
+unfolding packedAt
+packed-step image i = refl
+
+pub packed-bodies : (image : List ℕ) (i : ℕ) (xs ys : List Device) → Stand image i (xs ++ ys) → packedAt image (i + length xs) ≡ packedAt image i + length (bodiesOf xs)
+unfolding bodiesOf
+packed-bodies image i [] ys s = ap (packedAt image) (add-zero i) ∙ sym (add-zero (packedAt image i))
+packed-bodies image i (x ∷ xs) ys s =
+    let e : i + suc (length xs) ≡ suc i + length xs = omega arith in
+    ap (packedAt image) e
+    ∙ packed-bodies image (suc i) xs ys (s .1)
+    ∙ omega (arith, packed-step image i, s .0 .size, length-append (x .body) (bodiesOf xs))
+
+bodies-append : (xs ys : List Device) → bodiesOf (xs ++ ys) ≡ bodiesOf xs ++ bodiesOf ys
+unfolding bodiesOf
+bodies-append [] ys = refl
+bodies-append (x ∷ xs) ys = ap (λ (l : List ℕ). x .body ++ l) (bodies-append xs ys) ∙ sym (append-assoc (x .body) (bodiesOf xs) (bodiesOf ys))
+
+-- a place by its kind, start and size
+abbrev placed : Kind → ℕ → ℕ → Place
+placed kind start size = record { kind = kind; start = start; end = start + size }
+
+place-known : (image : List ℕ) (i : ℕ) → i < countOf image → offsetAt image i + bodySize (kindAt image i) ≤ length image
+    → placeOf image i ≡ placed (kindAt image i) (offsetAt image i) (bodySize (kindAt image i))
+unfolding placeOf
+place-known image i h fits = rw (lt-ltb i (countOf image) h, le-leb (offsetAt image i + bodySize (kindAt image i)) (length image) fits)
+
+-- what stands past the end of a list of devices, which nothing reads
+abbrev pub nobody : Device
+nobody = deviceOf Unknown [] waitingState
+
+level-none : (event : Event) → masterLevel event ≡ levelOf event []
+unfolding masterLevel levelOf someLow presence
+level-none (Slot true) = refl
+level-none (Slot false) = refl
+level-none Reset = refl
+level-none Pulse = refl
+
+module _ (image : List ℕ) (known : Known image) where
+  -- the image of devices: its header is this image's
+  abbrev pub imageOf : List Device → List ℕ
+  imageOf ds = headerOf image ++ bodiesOf ds
+
+  pub header-length : length (headerOf image) ≡ 2 + 4 * countOf image
+  header-length = length-take-le (2 + 4 * countOf image) image (known .entries)
+
+  pub header-at : (ds : List Device) (j : ℕ) → j < 2 + 4 * countOf image → getD (imageOf ds) j 0 ≡ getD image j 0
+  header-at ds j h = List·getD-append (headerOf image) (bodiesOf ds) 0 j (rw header-length h) ∙ getD-take (2 + 4 * countOf image) image j 0 h
+
+  pub count-kept : (ds : List Device) → countOf (imageOf ds) ≡ countOf image
+  count-kept ds = header-at ds 0 (omega arith)
+
+  pub family-kept : (ds : List Device) (i : ℕ) → i < countOf image → familyAt (imageOf ds) i ≡ familyAt image i
+  family-kept ds i h = header-at ds (2 + 4 * i) (omega arith)
+
+  pub kind-kept : (ds : List Device) (i : ℕ) → i < countOf image → kindAt (imageOf ds) i ≡ kindAt image i
+  kind-kept ds i h = ap kindOf (family-kept ds i h)
+
+  pub offset-kept : (ds : List Device) (i : ℕ) → i < countOf image → offsetAt (imageOf ds) i ≡ offsetAt image i
+  offset-kept ds i h = omega (arith, header-at ds (2 + 4 * i + 2) (omega arith), header-at ds (2 + 4 * i + 3) (omega arith))
+
+  -- ---- one device among the others
+  module _ (xs : List Device) (d : Device) (ys : List Device) (stand : Stand image 0 (xs ++ d ∷ ys)) (all : length (xs ++ d ∷ ys) ≡ countOf image) where
+    abbrev P : List ℕ
+    P = imageOf (xs ++ d ∷ ys)
+
+    -- what lies before its body
+    abbrev before : List ℕ
+    before = headerOf image ++ bodiesOf xs
+
+    within : length xs < countOf image
+    within = omega (arith, all, length-append xs (d ∷ ys))
+
+    pub entered : Entered image (length xs) d
+    entered = subst (λ (j : ℕ). Entered image j d) (omega arith) (stands-at image 0 xs d ys stand)
+
+    pub image-split : P ≡ before ++ (d .body ++ bodiesOf ys)
+    unfolding bodiesOf
+    image-split = ap (λ (l : List ℕ). headerOf image ++ l) (bodies-append xs (d ∷ ys)) ∙ sym (append-assoc (headerOf image) (bodiesOf xs) (d .body ++ bodiesOf ys))
+
+    pub start-is : offsetAt P (length xs) ≡ length before
+    unfolding packedAt
+    start-is =
+        let z : length xs ≡ 0 + length xs = omega arith in
+        let e : packedAt image (length xs) ≡ packedAt image 0 + length (bodiesOf xs) = ap (packedAt image) z ∙ packed-bodies image 0 xs (d ∷ ys) stand in
+        offset-kept (xs ++ d ∷ ys) (length xs) within ∙ known .placed (length xs) within ∙ e
+        ∙ omega (arith, length-append (headerOf image) (bodiesOf xs), header-length)
+
+    kind-is : kindAt P (length xs) ≡ d .kind
+    kind-is = kind-kept (xs ++ d ∷ ys) (length xs) within ∙ sym (entered .kind)
+
+    size-is : bodySize (kindAt P (length xs)) ≡ length (d .body)
+    size-is = ap bodySize (kind-kept (xs ++ d ∷ ys) (length xs) within) ∙ sym (entered .size)
+
+    fits : offsetAt P (length xs) + bodySize (kindAt P (length xs)) ≤ length P
+    fits = omega (arith, start-is, size-is, ap length image-split, length-append before (d .body ++ bodiesOf ys), length-append (d .body) (bodiesOf ys))
+
+    pub place-is : placeOf P (length xs) ≡ placed (d .kind) (length before) (length (d .body))
+    place-is =
+        place-known P (length xs) (subst (λ (m : ℕ). length xs < m) (sym (count-kept (xs ++ d ∷ ys))) within) fits
+        ∙ ap (λ (k : Kind). placed k (offsetAt P (length xs)) (bodySize (kindAt P (length xs)))) kind-is
+        ∙ ap (λ (s : ℕ). placed (d .kind) s (bodySize (kindAt P (length xs)))) start-is
+        ∙ ap (λ (s : ℕ). placed (d .kind) (length before) s) size-is
+
+    -- it is the device that its place in the image gives
+    body-is : take (length before + length (d .body) - length before) (drop (length before) P) ≡ d .body
+    body-is =
+        let e : length before + length (d .body) - length before ≡ length (d .body) = omega arith in
+        ap (λ (m : ℕ). take m (drop (length before) P)) e
+        ∙ ap (λ (l : List ℕ). take (length (d .body)) (drop (length before) l)) image-split
+        ∙ ap (λ (l : List ℕ). take (length (d .body)) l) (drop-at before (d .body ++ bodiesOf ys) (length before) refl)
+        ∙ take-at (d .body) (bodiesOf ys) (length (d .body)) refl
+
+    pub device-is : deviceIn P (length xs) (d .state) ≡ d
+    unfolding deviceIn deviceAt
+    device-is = ap (λ (p : Place). deviceAt P p (d .state)) place-is ∙ ap (λ (b : List ℕ). deviceOf (d .kind) b (d .state)) body-is
+
+    -- another body in its place
+    pub body-put : (e : Device) → withBody P (placeOf P (length xs)) (e .body) ≡ imageOf (xs ++ e ∷ ys)
+    unfolding withBody bodiesOf
+    body-put e =
+        ap (λ (p : Place). withBody P p (e .body)) place-is
+        ∙ ap (λ (l : List ℕ). take (length before) l ++ (e .body ++ drop (length before + length (d .body)) l)) image-split
+        ∙ ap (λ (l : List ℕ). l ++ (e .body ++ drop (length before + length (d .body)) (before ++ (d .body ++ bodiesOf ys)))) (take-at before (d .body ++ bodiesOf ys) (length before) refl)
+        ∙ ap (λ (l : List ℕ). before ++ (e .body ++ l)) (drop-append-add before (d .body ++ bodiesOf ys) (length (d .body)) ∙ drop-at (d .body) (bodiesOf ys) (length (d .body)) refl)
+        ∙ append-assoc (headerOf image) (bodiesOf xs) (e .body ++ bodiesOf ys)
+        ∙ ap (λ (l : List ℕ). headerOf image ++ l) (sym (bodies-append xs (e ∷ ys)))
+
+  -- ---- all devices, with what stands behind their line states
+  module _ (tail : List LineState) where
+    abbrev linesOf : List Device → List LineState
+    linesOf ds = statesOf ds ++ tail
+
+    abbrev busStateOf : List Device → BusState
+    busStateOf ds = busState (imageOf ds) (linesOf ds)
+
+    module _ (xs : List Device) (d : Device) (ys : List Device) where
+      lines-split : linesOf (xs ++ d ∷ ys) ≡ statesOf xs ++ d .state ∷ linesOf ys
+      lines-split = ap (λ (l : List LineState). l ++ tail) (map-append (λ (x : Device). x .state) xs (d ∷ ys)) ∙ append-assoc (statesOf xs) (d .state ∷ statesOf ys) tail
+
+      states-length : length (statesOf xs) ≡ length xs
+      states-length = length-map xs (λ (x : Device). x .state)
+
+      line-is : lineAt (linesOf (xs ++ d ∷ ys)) (length xs) ≡ d .state
+      line-is = ap (λ (l : List LineState). lineAt l (length xs)) lines-split ∙ getD-at (statesOf xs) (d .state) (linesOf ys) waitingState (length xs) states-length
+
+    line-put : (xs : List Device) (d e : Device) (ys : List Device) → set (linesOf (xs ++ d ∷ ys)) (length xs) (e .state) ≡ linesOf (xs ++ e ∷ ys)
+    line-put xs d e ys =
+        ap (λ (l : List LineState). set l (length xs) (e .state)) (lines-split xs d ys)
+        ∙ set-at (statesOf xs) (d .state) (linesOf ys) (e .state) (length xs) (states-length xs e ys)
+        ∙ sym (lines-split xs e ys)
+
+    -- the turn of one device
+    turn-is : (byte : ℕ) (level : Bool) (xs : List Device) (d : Device) (ys : List Device) → Stand image 0 (xs ++ d ∷ ys) → length (xs ++ d ∷ ys) ≡ countOf image
+        → turnAt byte level (length xs) (busStateOf (xs ++ d ∷ ys)) ≡ busStateOf (xs ++ nextDevice (eventOf byte) level d ∷ ys)
+    unfolding turnAt turnImage turnState nextDevice
+    turn-is byte level xs d ys stand all =
+        let P = imageOf (xs ++ d ∷ ys) in
+        let i = length xs in
+        let e = nextDevice (eventOf byte) level d in
+        let L = linesOf (xs ++ d ∷ ys) in
+        ap (λ (s : LineState). busState (turnImage P i s byte level) (set L i (turnState P i s byte level))) (line-is xs d ys)
+        ∙ ap (λ (c : Device). busState (withBody P (placeOf P i) (nextBody (eventOf byte) level c)) (set L i (nextState (eventOf byte) level c))) (device-is xs d ys stand all)
+        ∙ ap (λ (l : List ℕ). busState l (set L i (e .state))) (body-put xs d ys stand all e)
+        ∙ ap (λ (l : List LineState). busState (imageOf (xs ++ e ∷ ys)) l) (line-put xs d e ys)
+
+    module _ (ds : List Device) (stand : Stand image 0 ds) (all : length ds ≡ countOf image) where
+      -- the turns of the first i devices
+      turns-are : (byte : ℕ) (level : Bool) (i : ℕ) → i ≤ length ds → turns byte level i (busStateOf ds) ≡ busStateOf (map (nextDevice (eventOf byte) level) (take i ds) ++ drop i ds)
+      unfolding turns
+      turns-are byte level zero h = refl
+      turns-are byte level (suc i) h =
+          let f = nextDevice (eventOf byte) level in
+          let d = getD ds i nobody in
+          let xs = map f (take i ds) in
+          let ys = drop (suc i) ds in
+          let len : length xs ≡ i = length-map (take i ds) f ∙ length-take-le i ds (omega arith) in
+          let cut : xs ++ drop i ds ≡ xs ++ d ∷ ys = ap (λ (l : List Device). xs ++ l) (drop-cons ds i nobody h) in
+          let same : AllSame (xs ++ d ∷ ys) ds = subst (λ (l : List Device). AllSame l ds) cut (part-same (eventOf byte) level i ds) in
+          ap (turnAt byte level i) (turns-are byte level i (omega arith) ∙ ap busStateOf cut)
+          ∙ ap (λ (j : ℕ). turnAt byte level j (busStateOf (xs ++ d ∷ ys))) (sym len)
+          ∙ turn-is byte level xs d ys (stand-same image 0 same stand) (same-length same ∙ all)
+          ∙ ap busStateOf (sym (ap (λ (l : List Device). map f l ++ ys) (take-suc ds i nobody h) ∙ ap (λ (l : List Device). l ++ ys) (map-append f (take i ds) (d ∷ [])) ∙ append-snoc xs (f d) ys))
+
+      -- device i of the list is device i of the image
+      device-at : (i : ℕ) → i < length ds → deviceIn (imageOf ds) i (lineAt (linesOf ds) i) ≡ getD ds i nobody
+      device-at i h =
+          let d = getD ds i nobody in
+          let xs = take i ds in
+          let ys = drop (suc i) ds in
+          let cut : ds ≡ xs ++ d ∷ ys = split-at ds i nobody h in
+          let len : length xs ≡ i = length-take-le i ds (omega arith) in
+          ap (λ (l : List Device). deviceIn (imageOf l) i (lineAt (linesOf l) i)) cut
+          ∙ ap (λ (j : ℕ). deviceIn (imageOf (xs ++ d ∷ ys)) j (lineAt (linesOf (xs ++ d ∷ ys)) j)) (sym len)
+          ∙ ap (λ (s : LineState). deviceIn (imageOf (xs ++ d ∷ ys)) (length xs) s) (line-is xs d ys)
+          ∙ device-is xs d ys (subst (Stand image 0) cut stand) (sym (ap length cut) ∙ all)
+
+      -- the level with the first i devices on the line
+      level-are : (byte i : ℕ) → i ≤ length ds → levelWith (imageOf ds) (linesOf ds) byte i ≡ levelOf (eventOf byte) (take i ds)
+      unfolding levelWith
+      level-are byte zero h = level-none (eventOf byte)
+      level-are byte (suc i) h =
+          let d = getD ds i nobody in
+          ap (λ (b : Bool). b && deviceLevel (eventOf byte) (deviceIn (imageOf ds) i (lineAt (linesOf ds) i))) (level-are byte i (omega arith))
+          ∙ ap (λ (c : Device). levelOf (eventOf byte) (take i ds) && deviceLevel (eventOf byte) c) (device-at i h)
+          ∙ sym (level-more (eventOf byte) (take i ds) d)
+          ∙ ap (levelOf (eventOf byte)) (sym (take-suc ds i nobody h))
+
+      served-all : servedOf (imageOf ds) (length (linesOf ds)) ≡ length ds
+      unfolding servedOf
+      served-all =
+          let enough : countOf (imageOf ds) ≤ length (linesOf ds) = omega (arith, count-kept ds, all, length-append (statesOf ds) tail, length-map ds (λ (x : Device). x .state)) in
+          rw (le-ltb (length (linesOf ds)) (countOf (imageOf ds)) enough) (count-kept ds ∙ sym all)
+
+      pub level-is : (byte : ℕ) → levelOn (imageOf ds) (linesOf ds) byte ≡ levelOf (eventOf byte) ds
+      unfolding levelOn
+      level-is byte =
+          ap (levelWith (imageOf ds) (linesOf ds) byte) served-all
+          ∙ level-are byte (length ds) (omega arith)
+          ∙ ap (levelOf (eventOf byte)) (take-length ds)
+
+      pub turned-is : (byte : ℕ) (level : Bool) → turns byte level (length ds) (busStateOf ds) ≡ busStateOf (map (nextDevice (eventOf byte) level) ds)
+      turned-is byte level =
+          let f = nextDevice (eventOf byte) level in
+          turns-are byte level (length ds) (omega arith)
+          ∙ ap busStateOf (ap (λ (l : List Device). map f (take (length ds) ds) ++ l) (drop-length ds) ∙ append-nil (map f (take (length ds) ds)) ∙ ap (map f) (take-length ds))
+
+    -- ---- the events of a trace, on devices that stand at the entries
+    module _ (trace answers : List ℕ) (room : length trace ≤ length answers) (ds : List Device) (stand : Stand image 0 ds) (all : length ds ≡ countOf image) where
+      -- after k events
+      abbrev ran : ℕ → Run
+      ran k = runTrace (take k trace) ds
+
+      abbrev runStateOf : ℕ → RunState
+      runStateOf k = runState (imageOf (ran k .devices)) (ran k .answers ++ drop k answers) (linesOf (ran k .devices))
+
+      run-next : (k : ℕ) → k < length trace → ran (suc k) ≡ runAfter (ran k .answers) (runTrace (getD trace k 0 ∷ []) (ran k .devices))
+      run-next k h = ap (λ (t : List ℕ). runTrace t ds) (take-suc trace k 0 h) ∙ run-append (take k trace) (getD trace k 0 ∷ []) ds
+
+      answers-put : (k a : ℕ) → k < length trace → set (ran k .answers ++ drop k answers) k a ≡ (ran k .answers ++ a ∷ []) ++ drop (suc k) answers
+      answers-put k a h =
+          let len : length (ran k .answers) ≡ k = run-length (take k trace) ds ∙ length-take-le k trace (omega arith) in
+          ap (λ (l : List ℕ). set (ran k .answers ++ l) k a) (drop-cons answers k 0 (omega arith))
+          ∙ set-at (ran k .answers) (getD answers k 0) (drop (suc k) answers) a k len
+          ∙ sym (append-snoc (ran k .answers) a (drop (suc k) answers))
+
+      -- one event
+      event-is : (k : ℕ) → k < length trace → eventAt (getD trace k 0) (countOf image) k (runStateOf k) ≡ runStateOf (suc k)
+      unfolding eventAt runTrace withAnswer busStep busStepAt
+      event-is k h =
+          let byte = getD trace k 0 in
+          let es = ran k .devices in
+          let same = run-same (take k trace) ds in
+          let stand′ = stand-same image 0 same stand in
+          let all′ : length es ≡ countOf image = same-length same ∙ all in
+          let level = levelOf (eventOf byte) es in
+          let after = map (nextDevice (eventOf byte) level) es in
+          ap (λ (b : Bool). runState (turns byte b (countOf image) (busStateOf es) .image) (set (ran k .answers ++ drop k answers) k (answerOf b)) (turns byte b (countOf image) (busStateOf es) .lines)) (level-is es stand′ all′ byte)
+          ∙ ap (λ (s : BusState). runState (s .image) (set (ran k .answers ++ drop k answers) k (answerOf level)) (s .lines)) (ap (λ (m : ℕ). turns byte level m (busStateOf es)) (sym all′) ∙ turned-is es stand′ all′ byte level)
+          ∙ ap (λ (l : List ℕ). runState (imageOf after) l (linesOf after)) (answers-put k (answerOf level) h)
+          ∙ ap (λ (r : Run). runState (imageOf (r .devices)) (r .answers ++ drop (suc k) answers) (linesOf (r .devices))) (sym (run-next k h))
+
+      events-are : (k : ℕ) → k ≤ length trace → events trace (countOf image) k (runState (imageOf ds) answers (linesOf ds)) ≡ runStateOf k
+      unfolding events runTrace
+      events-are zero h = refl
+      events-are (suc k) h = ap (eventAt (getD trace k 0) (countOf image) k) (events-are k (omega arith)) ∙ event-is k h
+
+      pub run-is : events trace (countOf image) (length trace) (runState (imageOf ds) answers (linesOf ds))
+          ≡ runState (imageOf (runTrace trace ds .devices)) (runTrace trace ds .answers ++ drop (length trace) answers) (linesOf (runTrace trace ds .devices))
+      run-is =
+          events-are (length trace) (omega arith)
+          ∙ ap (λ (t : List ℕ). runState (imageOf (runTrace t ds .devices)) (runTrace t ds .answers ++ drop (length trace) answers) (linesOf (runTrace t ds .devices))) (take-length trace)
+
+  -- ---- the devices at the start of a run
+  waiting-stand : (i : ℕ) (states : List LineState) → i + length states ≡ countOf image → Stand image i (devicesFrom image i states)
+  unfolding devicesFrom
+  waiting-stand i [] e = tt
+  waiting-stand i (state ∷ states) e =
+      let h : i < countOf image = omega arith in
+      (record { kind = refl; size = body-length image known i h; code = body-code image known i h }, waiting-stand (suc i) states (omega arith))
+
+  devices-length : (i : ℕ) (states : List LineState) → length (devicesFrom image i states) ≡ length states
+  unfolding devicesFrom
+  devices-length i [] = refl
+  devices-length i (state ∷ states) = ap suc (devices-length (suc i) states)
+
+  devices-states : (i : ℕ) (states : List LineState) → statesOf (devicesFrom image i states) ≡ states
+  unfolding devicesFrom
+  devices-states i [] = refl
+  devices-states i (state ∷ states) = ap (λ (l : List LineState). state ∷ l) (devices-states (suc i) states)
+
+  -- their bodies are what follows the header
+  devices-bodies : (i : ℕ) (states : List LineState) → i + length states ≡ countOf image → bodiesOf (devicesFrom image i states) ≡ drop (packedAt image i) image
+  unfolding devicesFrom bodiesOf
+  devices-bodies i [] e =
+      let last : i ≡ countOf image = omega arith in
+      sym (ap (λ (j : ℕ). drop (packedAt image j) image) last ∙ ap (λ (m : ℕ). drop m image) (sym (known .whole)) ∙ drop-length image)
+  devices-bodies i (state ∷ states) e =
+      let h : i < countOf image = omega arith in
+      let size = bodySize (kindAt image i) in
+      ap (λ (l : List ℕ). bodyAt image i ++ l) (devices-bodies (suc i) states (omega arith) ∙ ap (λ (m : ℕ). drop m image) (packed-step image i) ∙ sym (drop-drop size (packedAt image i) image))
+      ∙ ap (λ (m : ℕ). take size (drop m image) ++ drop size (drop (packedAt image i) image)) (known .placed i h)
+      ∙ take-append-drop size (drop (packedAt image i) image)
+
+  pub waiting-all : length (waitingDevices image) ≡ countOf image
+  unfolding waitingDevices
+  waiting-all = devices-length 0 (replicate (countOf image) waitingState) ∙ length-replicate (countOf image) waitingState
+
+  pub waiting-stands : Stand image 0 (waitingDevices image)
+  unfolding waitingDevices
+  waiting-stands = waiting-stand 0 (replicate (countOf image) waitingState) (omega (arith, length-replicate (countOf image) waitingState))
+
+  pub waiting-image : imageOf (waitingDevices image) ≡ image
+  unfolding waitingDevices packedAt
+  waiting-image =
+      ap (λ (l : List ℕ). headerOf image ++ l) (devices-bodies 0 (replicate (countOf image) waitingState) (omega (arith, length-replicate (countOf image) waitingState)))
+      ∙ take-append-drop (2 + 4 * countOf image) image
+
+  pub waiting-states : statesOf (waitingDevices image) ≡ replicate (countOf image) waitingState
+  unfolding waitingDevices
+  waiting-states = devices-states 0 (replicate (countOf image) waitingState)
+
+-- ---- the run
+
+filled-is : (i : ℕ) (state : LineState) (lines : List LineState) → i ≤ length lines → filled i state lines ≡ replicate i state ++ drop i lines
+unfolding filled
+filled-is zero state lines h = refl
+filled-is (suc i) state lines h =
+    ap (λ (l : List LineState). set l i state) (filled-is i state lines (omega arith) ∙ ap (λ (l : List LineState). replicate i state ++ l) (drop-cons lines i state h))
+    ∙ set-at (replicate i state) (getD lines i state) (drop (suc i) lines) state i (length-replicate i state)
+    ∙ sym (append-snoc (replicate i state) state (drop (suc i) lines))
+    ∙ ap (λ (l : List LineState). l ++ drop (suc i) lines) (replicate-append-replicate i 1 state ∙ ap (λ (m : ℕ). replicate m state) (add-one i))
+
+-- what the loops make of image, answers and line states
+abbrev pub ends : List ℕ → List ℕ → List ℕ → List LineState → RunState
+ends trace image answers lines =
+    events trace (servedOf image (length lines)) (length trace) (runState image answers (filled (servedOf image (length lines)) waitingState lines))
+
+-- is what the run is to leave, where it is not refused
+pub run-shown : (trace image answers : List ℕ) (lines : List LineState) → runRefusal image trace (length answers) (length lines) ≡ 0
+    → outcome 0 (ends trace image answers lines .image) (ends trace image answers lines .answers) (ends trace image answers lines .lines) ≡ runOf trace image answers lines
+unfolding runOf runAt leftBy servedOf
+run-shown trace image answers lines e =
+    let has = admitted image trace (length answers) (length lines) e in
+    let known = accepted-known image (has .image-accepted) in
+    let n = countOf image in
+    let tail = drop n lines in
+    let ds = waitingDevices image in
+    let served : servedOf image (length lines) ≡ n = rw (le-ltb (length lines) n (has .lines-room)) in
+    let began : filled n waitingState lines ≡ statesOf ds ++ tail = filled-is n waitingState lines (has .lines-room) ∙ ap (λ (l : List LineState). l ++ tail) (sym (waiting-states image known)) in
+    let ended : ends trace image answers lines ≡ runState (headerOf image ++ bodiesOf (runTrace trace ds .devices)) (runTrace trace ds .answers ++ drop (length trace) answers) (statesOf (runTrace trace ds .devices) ++ tail) =
+    ap (λ (m : ℕ). events trace m (length trace) (runState image answers (filled m waitingState lines))) served
+    ∙ ap (λ (l : List LineState). events trace n (length trace) (runState image answers l)) began
+    ∙ ap (λ (l : List ℕ). events trace n (length trace) (runState l answers (statesOf ds ++ tail))) (sym (waiting-image image known))
+    ∙ run-is image known tail trace answers (has .answers-room) ds (waiting-stands image known) (waiting-all image known) in
+    ap (λ (s : RunState). outcome 0 (s .image) (s .answers) (s .lines)) ended
+    ∙ ap (λ (m : ℕ). runAt m trace image answers lines) (sym e)
+
+-- what is refused changes nothing
+refused-at : (m : ℕ) (trace image answers : List ℕ) (lines : List LineState) → T (not (eqb m 0)) → outcome m image answers lines ≡ runAt m trace image answers lines
+unfolding runAt
+refused-at zero trace image answers lines t = absurd t
+refused-at (suc m) trace image answers lines t = refl
+
+pub run-refused : (trace image answers : List ℕ) (lines : List LineState) → T (not (eqb (runRefusal image trace (length answers) (length lines)) 0))
+    → outcome (runRefusal image trace (length answers) (length lines)) image answers lines ≡ runOf trace image answers lines
+unfolding runOf
+run-refused trace image answers lines t = refused-at (runRefusal image trace (length answers) (length lines)) trace image answers lines t

@@ -1,0 +1,84 @@
+use mathlib.Core.Bool.{and-false}
+use Prim.Native.Nat.{_<_}
+use Rattle.image.specs.declared.Entry.{Entry}
+use Rattle.kind.specs.Kind.{bodySize}
+use lib.ListN.{length, getD}
+use Prim.Native.Nat.{ℕ, _+_, _*_, _≤_}
+use borrow.Author.Tests.{lt-ltb, le-ltb, le-leb, lt-leb}
+use mathlib.Core.Path.{_≡_, sym, ap, _∙_}
+use native.Mathlib.Omega.{arith}
+use Rattle.bus.specs.Loops.{placeOf}
+use Rattle.image.specs.Image.{entryOf, familyAt, offsetAt, kindAt, countOf}
+use Rattle.image.proofs.Laws.{size-bound}
+use borrow.Author.Needs.{needs}
+use Rattle.bus.proofs.place_of.Statement.{statement}
+use Rattle.bus.proofs.place_of.Tie as tie
+
+count-requires : tie.Need-count-requires
+count-requires c κs = search needs
+
+wide-requires : tie.Need-wide-requires
+wide-requires c κs = search needs
+
+cast-entry-at : tie.Need-cast-entry-at
+cast-entry-at c = search needs
+
+entry-at-requires : tie.Need-entry-at-requires
+entry-at-requires c κs = search needs
+
+body-size-requires : tie.Need-body-size-requires
+body-size-requires c κs = search needs
+
+add-end : tie.Need-add-end
+unfolding entryOf
+add-end c =
+    let s = c .before .before .before .before .before .before in
+    let image = s .args .image .now in
+    let i = s .args .i in
+    let size : c .body-size .result ≡ bodySize (kindAt image i) = c .body-size .ensures ∙ ap (λ (e : Entry). bodySize (e .kind)) (c .before .entry-at .ensures) in
+    let start : c .before .entry-at .result .start ≡ offsetAt image i = ap (λ (e : Entry). e .start) (c .before .entry-at .ensures) in
+    omega (arith, size-bound (familyAt image i), c .before .before .before .before .before .shared-slice-known .given (2 + 4 * i + 2), c .before .before .before .before .before .shared-slice-known .given (2 + 4 * i + 3))
+
+returns : tie.Need-returns
+unfolding placeOf entryOf
+returns c =
+    let s = c .before .before .before .before .before .before .before in
+    let image = s .args .image .now in
+    let i = s .args .i in
+    let size : c .before .body-size .result ≡ bodySize (kindAt image i) = c .before .body-size .ensures ∙ ap (λ (e : Entry). bodySize (e .kind)) (c .before .before .entry-at .ensures) in
+    let start : c .before .before .entry-at .result .start ≡ offsetAt image i = ap (λ (e : Entry). e .start) (c .before .before .entry-at .ensures) in
+    let fits : offsetAt image i + bodySize (kindAt image i) ≤ length image = omega arith in
+    rw (lt-ltb i (countOf image) (omega (arith, c .before .before .before .before .wide .ensures, c .before .before .before .before .before .count .ensures)), le-leb _ _ fits, size, c .before .before .entry-at .ensures)
+
+returns-2 : tie.Need-returns-2
+unfolding placeOf entryOf
+returns-2 c =
+    let s = c .before .before .before .before .before .before .before in
+    let image = s .args .image .now in
+    let i = s .args .i in
+    let size : c .before .body-size .result ≡ bodySize (kindAt image i) = c .before .body-size .ensures ∙ ap (λ (e : Entry). bodySize (e .kind)) (c .before .before .entry-at .ensures) in
+    let start : c .before .before .entry-at .result .start ≡ offsetAt image i = ap (λ (e : Entry). e .start) (c .before .before .entry-at .ensures) in
+    let past : length image < offsetAt image i + bodySize (kindAt image i) = omega arith in
+    simp (lt-leb _ _ past, and-false)
+
+returns-3 : tie.Need-returns-3
+unfolding placeOf entryOf
+returns-3 c =
+    let s = c .before .before .before .before in
+    let image = s .args .image .now in
+    let i = s .args .i in
+    rw (le-ltb i (countOf image) (omega (arith, c .before .wide .ensures, c .before .before .count .ensures)))
+
+pub place-of-spec : {M : Type 1} → statement M
+place-of-spec =
+    tie.close
+    (tie.spec
+    count-requires
+    wide-requires
+    cast-entry-at
+    entry-at-requires
+    body-size-requires
+    add-end
+    returns
+    returns-2
+    returns-3)

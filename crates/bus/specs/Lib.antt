@@ -1,0 +1,4 @@
+pub mod Bus
+pub mod Refusal
+pub mod Run
+pub mod Loops

@@ -1,0 +1,116 @@
+-- What the functions of `src/` below `run` do, for any image and any line states: each loop's state by recursion on how many turns it has
+-- made. Where the image is not refused and there is room this is what `Bus.antt` and `Run.antt` say (`proofs/Shown.antt`).
+use Prim.Native.Nat.{ℕ, zero, suc, _+_, _-_}
+use mathlib.Core.Bool.{Bool, true, false, cond, _&&_}
+use mathlib.Core.List.{List, _++_}
+use lib.ListN.{length, getD, set, take, drop}
+use lib.Dec.{ltb, leb}
+use Rattle.kind.specs.declared.Kind.the-variants.{Unknown}
+use Rattle.kind.specs.Kind.{bodySize}
+use Rattle.image.specs.Image.{countOf, kindAt, offsetAt}
+use Rattle.device.specs.declared.LineState.{LineState}
+use Rattle.device.specs.Device.{waitingState, sendsOf}
+use Rattle.bus.specs.declared.Event.{Event}
+use Rattle.bus.specs.declared.Event.the-variants.{Slot, Reset, Pulse}
+use Rattle.bus.specs.declared.Place.{Place}
+use Rattle.bus.specs.Bus.{Device, deviceOf, eventOf, nextState, nextBody, answerOf}
+
+-- ---- one device
+
+-- where the body of device i lies, and its kind. A device that the image does not have, or has no room for, has an empty body and no kind
+unfoldable pub placeOf : List ℕ → ℕ → Place
+placeOf image i =
+    cond (ltb i (countOf image) && leb (offsetAt image i + bodySize (kindAt image i)) (length image))
+    (record { kind = kindAt image i; start = offsetAt image i; end = offsetAt image i + bodySize (kindAt image i) })
+    (record { kind = Unknown; start = 0; end = 0 })
+
+unfoldable pub deviceAt : List ℕ → Place → LineState → Device
+deviceAt image place state = deviceOf (place .kind) (take (place .end - place .start) (drop (place .start) image)) state
+
+unfoldable pub deviceIn : List ℕ → ℕ → LineState → Device
+deviceIn image i state = deviceAt image (placeOf image i) state
+
+-- the image with another body at a place
+unfoldable pub withBody : List ℕ → Place → List ℕ → List ℕ
+withBody image place body = take (place .start) image ++ (body ++ drop (place .end) image)
+
+-- the level at which the master, or a device, leaves the line in an event. At a reset a device answers presence
+unfoldable pub masterLevel : Event → Bool
+masterLevel (Slot sent) = sent
+masterLevel Reset = true
+masterLevel Pulse = true
+
+unfoldable pub deviceLevel : Event → Device → Bool
+deviceLevel (Slot sent) d = sendsOf (d .state) (d .kind) (d .body)
+deviceLevel Reset d = false
+deviceLevel Pulse d = true
+
+-- a device's turn in an event at a level
+unfoldable pub turnState : List ℕ → ℕ → LineState → ℕ → Bool → LineState
+turnState image i state byte level = nextState (eventOf byte) level (deviceIn image i state)
+
+unfoldable pub turnImage : List ℕ → ℕ → LineState → ℕ → Bool → List ℕ
+turnImage image i state byte level = withBody image (placeOf image i) (nextBody (eventOf byte) level (deviceIn image i state))
+
+-- ---- all devices
+
+-- a line state that a slice does not have is waiting
+abbrev pub lineAt : List LineState → ℕ → LineState
+lineAt lines i = getD lines i waitingState
+
+-- as many devices as the image has, and as line states are lent
+unfoldable pub servedOf : List ℕ → ℕ → ℕ
+servedOf image lines = cond (ltb lines (countOf image)) lines (countOf image)
+
+-- the level of the line with the master and the first i devices on it
+unfoldable pub levelWith : List ℕ → List LineState → ℕ → ℕ → Bool
+levelWith image lines byte zero = masterLevel (eventOf byte)
+levelWith image lines byte (suc i) = levelWith image lines byte i && deviceLevel (eventOf byte) (deviceIn image i (lineAt lines i))
+
+-- and with all devices that have a line state
+unfoldable pub levelOn : List ℕ → List LineState → ℕ → Bool
+levelOn image lines byte = levelWith image lines byte (servedOf image (length lines))
+
+-- image and line states after a turn of device i, and after the turns of the first i devices
+pub record BusState : Type 0 where
+  pub image : List ℕ
+  pub lines : List LineState
+
+abbrev pub busState : List ℕ → List LineState → BusState
+busState image lines = record { image = image; lines = lines }
+
+unfoldable pub turnAt : ℕ → Bool → ℕ → BusState → BusState
+turnAt byte level i s =
+    busState
+    (turnImage (s .image) i (lineAt (s .lines) i) byte level)
+    (set (s .lines) i (turnState (s .image) i (lineAt (s .lines) i) byte level))
+
+unfoldable pub turns : ℕ → Bool → ℕ → BusState → BusState
+turns byte level zero s = s
+turns byte level (suc i) s = turnAt byte level i (turns byte level i s)
+
+-- the first i line states are one
+unfoldable pub filled : ℕ → LineState → List LineState → List LineState
+filled zero state lines = lines
+filled (suc i) state lines = set (filled i state lines) i state
+
+-- ---- a trace
+
+-- what event k of a trace makes of the image, the answers and the line states of n devices, and what the first k events do
+pub record RunState : Type 0 where
+  pub image : List ℕ
+  pub answers : List ℕ
+  pub lines : List LineState
+
+abbrev pub runState : List ℕ → List ℕ → List LineState → RunState
+runState image answers lines = record { image = image; answers = answers; lines = lines }
+
+unfoldable pub eventAt : ℕ → ℕ → ℕ → RunState → RunState
+eventAt byte n k s =
+    let level = levelOn (s .image) (s .lines) byte in
+    let after = turns byte level n (busState (s .image) (s .lines)) in
+    runState (after .image) (set (s .answers) k (answerOf level)) (after .lines)
+
+unfoldable pub events : List ℕ → ℕ → ℕ → RunState → RunState
+events trace n zero s = s
+events trace n (suc k) s = eventAt (getD trace k 0) n k (events trace n k s)

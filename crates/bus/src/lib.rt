@@ -1,0 +1,317 @@
+// All devices on the line: the level of an event, which every device is given, and the run of a trace.
+//
+// The image holds the devices' bodies, and a lent slice their line states. One device's part in an event is a function by value over the
+// image and its line state; the loops over all devices, over the trace, and the run above them only fetch, call and store.
+use device::LineState;
+use kind::Kind;
+ghost use mathlib.Core.Path.{_≡_};
+ghost use Prim.Native.Nat.{_≤_};
+ghost use mathlib.Core.Bool.{not, _&&_};
+ghost use lib.ListN.{length};
+ghost use lib.Dec.{eqb, ltb};
+ghost use Rattle.image.specs.Image.{countOf, kindAt};
+ghost use Rattle.image.specs.Refusal.{someBelow};
+ghost use Rattle.bus.specs.Bus.{deviceOf, eventOf, nextState, nextBody};
+ghost use Rattle.bus.specs.Refusal.{someByte, badTrace, isEprom, badPulse, noRoom, runRefusal};
+ghost use Rattle.bus.specs.Run.{outcome, runOf};
+ghost use Rattle.bus.specs.Loops.{placeOf, deviceAt, deviceIn, masterLevel, deviceLevel, turnState, turnImage, servedOf, levelOn, busState, turns, filled, runState, events};
+
+// What the master does: a slot in which it sends a bit, a reset, or a program pulse.
+pub enum Event {
+    Slot(bool),
+    Reset,
+    Pulse,
+}
+
+// A device's kind, and where its body lies in the image.
+struct Place {
+    kind: Kind,
+    start: usize,
+    end: usize,
+}
+
+// The event of a byte of a trace: 0 and 1 are slots, 2 is a reset, any other the program pulse.
+fn event_of(byte: u8) -> Event
+    ensures { λ r. ⌜ r ≡ eventOf byte ⌝ }
+{
+    match byte {
+        0 => Event::Slot(false),
+        1 => Event::Slot(true),
+        2 => Event::Reset,
+        _ => Event::Pulse,
+    }
+}
+
+fn wide(byte: u8) -> usize
+    ensures { λ r. ⌜ r ≡ byte ⌝ }
+{
+    byte as usize
+}
+
+// The place of device i, found from its entry: that costs a constant.
+fn place_of(image: &[u8], i: usize) -> Place
+    ensures { λ r. ⌜ r ≡ placeOf (now (image .entry)) i ⌝ }
+{
+    if i < wide(image::count(image)) {
+        let entry = image::entry_at(image, i as u8);
+        let kind = entry.kind;
+        let start = entry.start;
+        let end = start + kind::body_size(kind);
+        if end <= image.len() {
+            return Place { kind, start, end };
+        }
+    }
+    Place {
+        kind: Kind::Unknown,
+        start: 0,
+        end: 0,
+    }
+}
+
+// The level at which the master alone leaves the line.
+fn master_level(byte: u8) -> bool
+    ensures { λ r. ⌜ r ≡ masterLevel (eventOf byte) ⌝ }
+{
+    match event_of(byte) {
+        Event::Slot(sent) => sent,
+        Event::Reset => true,
+        Event::Pulse => true,
+    }
+}
+
+// The level at which a device leaves the line: in a slot what it sends; at a reset it answers presence.
+fn device_level(byte: u8, state: LineState, kind: Kind, body: &[u8]) -> bool
+    ensures { λ r. ⌜ r ≡ deviceLevel (eventOf byte) (deviceOf kind (now (body .entry)) state) ⌝ }
+{
+    match event_of(byte) {
+        Event::Slot(_) => state.sends(kind, body),
+        Event::Reset => false,
+        Event::Pulse => true,
+    }
+}
+
+// The level of the line with device i on it as well.
+fn level_with(image: &[u8], i: usize, state: LineState, byte: u8, level: bool) -> bool
+    ensures { λ r. ⌜ r ≡ (level && deviceLevel (eventOf byte) (deviceIn (now (image .entry)) i state)) ⌝ }
+{
+    if !level {
+        return false;
+    }
+    let place = place_of(image, i);
+    let kind = place.kind;
+    let start = place.start;
+    let end = place.end;
+    device_level(byte, state, kind, &image[start..end])
+}
+
+// A device's next line state, and what becomes of its body.
+fn device_next(byte: u8, level: bool, state: LineState, kind: Kind, body: &mut [u8]) -> LineState
+    ensures { λ r. ⌜ (r ≡ nextState (eventOf byte) level (deviceOf kind (now (body .entry)) state)) × (now (body .exit) ≡ nextBody (eventOf byte) level (deviceOf kind (now (body .entry)) state)) ⌝ }
+{
+    match event_of(byte) {
+        Event::Slot(_) => {
+            let next = state.step(kind, body, level);
+            state.write(kind, body, level);
+            next
+        }
+        Event::Reset => state.reset(kind, body),
+        Event::Pulse => state.pulse(kind, body),
+    }
+}
+
+// Device i takes its turn in an event.
+fn turn(image: &mut [u8], i: usize, state: LineState, byte: u8, level: bool) -> LineState
+    ensures { λ r. ⌜ (r ≡ turnState (now (image .entry)) i state byte level) × (now (image .exit) ≡ turnImage (now (image .entry)) i state byte level) ⌝ }
+{
+    let place = place_of(image, i);
+    let kind = place.kind;
+    let start = place.start;
+    let end = place.end;
+    device_next(byte, level, state, kind, &mut image[start..end])
+}
+
+// How many devices have a line state.
+fn served(image: &[u8], lines: usize) -> usize
+    ensures { λ r. ⌜ r ≡ servedOf (now (image .entry)) lines ⌝ }
+{
+    let n = wide(image::count(image));
+    if lines < n {
+        return lines;
+    }
+    n
+}
+
+// Whether a byte of a trace is over 3.
+fn has_unknown_event(trace: &[u8]) -> bool
+    ensures { λ r. ⌜ r ≡ someByte (λ byte. ltb 3 byte) (now (trace .entry)) ⌝ }
+{
+    let mut k = 0;
+    while k < trace.len() {
+        if 3 < trace[k] {
+            return true;
+        }
+        k += 1;
+    }
+    false
+}
+
+// Cause 5.
+fn is_bad_trace(trace: &[u8]) -> bool
+    ensures { λ r. ⌜ r ≡ badTrace (now (trace .entry)) ⌝ }
+{
+    if 32768 < trace.len() {
+        return true;
+    }
+    has_unknown_event(trace)
+}
+
+// Whether a trace has a program pulse.
+fn has_pulse(trace: &[u8]) -> bool
+    ensures { λ r. ⌜ r ≡ someByte (λ byte. eqb byte 3) (now (trace .entry)) ⌝ }
+{
+    let mut k = 0;
+    while k < trace.len() {
+        if trace[k] == 3 {
+            return true;
+        }
+        k += 1;
+    }
+    false
+}
+
+fn is_eprom(kind: Kind) -> bool
+    ensures { λ r. ⌜ r ≡ isEprom kind ⌝ }
+{
+    match kind {
+        Kind::Sram { size: _ } => false,
+        Kind::Eprom => true,
+        Kind::Unknown => false,
+    }
+}
+
+// Whether a device is not a DS1982.
+fn has_other_kind(image: &[u8]) -> bool
+    ensures { λ r. ⌜ r ≡ someBelow (countOf (now (image .entry))) (λ i. not (isEprom (kindAt (now (image .entry)) i))) ⌝ }
+{
+    let n = image::count(image);
+    let mut i: u8 = 0;
+    while i < n {
+        let entry = image::entry_at(image, i);
+        let kind = entry.kind;
+        if !is_eprom(kind) {
+            return true;
+        }
+        i += 1;
+    }
+    false
+}
+
+// Cause 6.
+fn is_bad_pulse(image: &[u8], trace: &[u8]) -> bool
+    ensures { λ r. ⌜ r ≡ badPulse (now (image .entry)) (now (trace .entry)) ⌝ }
+{
+    if has_pulse(trace) {
+        return has_other_kind(image);
+    }
+    false
+}
+
+// Cause 7.
+fn lacks_room(image: &[u8], trace: &[u8], answers: usize, lines: usize) -> bool
+    ensures { λ r. ⌜ r ≡ noRoom (now (image .entry)) (now (trace .entry)) answers lines ⌝ }
+{
+    if answers < trace.len() {
+        return true;
+    }
+    lines < wide(image::count(image))
+}
+
+// Why a run is refused, 1 to 7; 0 where it is not.
+fn refusal(image: &[u8], trace: &[u8], answers: usize, lines: usize) -> u32
+    ensures { λ r. ⌜ r ≡ runRefusal (now (image .entry)) (now (trace .entry)) answers lines ⌝ }
+{
+    let number = image::refusal(image);
+    if number != 0 {
+        return number;
+    }
+    if is_bad_trace(trace) {
+        return 5;
+    }
+    if is_bad_pulse(image, trace) {
+        return 6;
+    }
+    if lacks_room(image, trace, answers, lines) {
+        return 7;
+    }
+    0
+}
+
+// The level of an event: each device that has a line state is asked in turn.
+pub fn level(image: &[u8], lines: &[LineState], byte: u8) -> bool
+    ensures { λ r. ⌜ r ≡ levelOn (now (image .entry)) (now (lines .entry)) byte ⌝ }
+{
+    let n = served(image, lines.len());
+    let mut level = master_level(byte);
+    let mut i: usize = 0;
+    while i < n {
+        let state = lines[i];
+        level = level_with(image, i, state, byte, level);
+        i = i + 1;
+    }
+    level
+}
+
+// Each of the first n devices takes its turn in an event.
+fn turn_all(image: &mut [u8], lines: &mut [LineState], n: usize, byte: u8, level: bool)
+    requires { ⌜ n ≤ length (now lines) ⌝ }
+    ensures { λ _. ⌜ busState (now (image .exit)) (now (lines .exit)) ≡ turns byte level n (busState (now (image .entry)) (now (lines .entry))) ⌝ }
+{
+    let mut i: usize = 0;
+    while i < n {
+        let state = lines[i];
+        let next = turn(image, i, state, byte, level);
+        lines[i] = next;
+        i = i + 1;
+    }
+}
+
+// The first n line states are one.
+fn fill(lines: &mut [LineState], n: usize, state: LineState)
+    requires { ⌜ n ≤ length (now lines) ⌝ }
+    ensures { λ _. ⌜ now (lines .exit) ≡ filled n state (now (lines .entry)) ⌝ }
+{
+    let mut i: usize = 0;
+    while i < n {
+        lines[i] = state;
+        i = i + 1;
+    }
+}
+
+// Every event of a trace, on n devices.
+fn run_events(image: &mut [u8], trace: &[u8], answers: &mut [u8], lines: &mut [LineState], n: usize)
+    requires { ⌜ (length (now trace) ≤ length (now answers)) × (n ≤ length (now lines)) ⌝ }
+    ensures { λ _. ⌜ runState (now (image .exit)) (now (answers .exit)) (now (lines .exit)) ≡ events (now (trace .entry)) n (length (now (trace .entry))) (runState (now (image .entry)) (now (answers .entry)) (now (lines .entry))) ⌝ }
+{
+    let mut k: usize = 0;
+    while k < trace.len() {
+        let byte = trace[k];
+        let line = level(image, lines, byte);
+        answers[k] = line as u8;
+        turn_all(image, lines, n, byte, line);
+        k = k + 1;
+    }
+}
+
+// The run, of any input: what is refused changes nothing.
+pub fn run(image: &mut [u8], trace: &[u8], answers: &mut [u8], lines: &mut [LineState]) -> u32
+    ensures { λ r. ⌜ outcome r (now (image .exit)) (now (answers .exit)) (now (lines .exit)) ≡ runOf (now (trace .entry)) (now (image .entry)) (now (answers .entry)) (now (lines .entry)) ⌝ }
+{
+    let number = refusal(image, trace, answers.len(), lines.len());
+    if number == 0 {
+        let n = served(image, lines.len());
+        let waiting = LineState::waiting();
+        fill(lines, n, waiting);
+        run_events(image, trace, answers, lines, n);
+    }
+    number
+}
