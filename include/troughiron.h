@@ -1,0 +1,67 @@
+/*
+ * Troughiron: a software bench for 1-Wire memory buttons (DS1992, DS1993, DS1982).
+ *
+ * A bench is an image of bytes. Byte 0 is the number n of devices, 0 to 64, byte 1 the edition, 1. Then n entries of four bytes follow:
+ * family code (08h DS1992, 06h DS1993, 09h DS1982), a zero, the offset of the device's body (low byte first). The bodies follow in the order
+ * of the entries, packed, with nothing after the last:
+ *
+ *   DS1992, DS1993   8 code bytes, TA1, TA2, E/S, 32 scratchpad bytes, then 128 or 512 bytes of memory: 171 or 555 bytes
+ *   DS1982           8 code bytes, 8 status bytes, 128 data bytes: 144 bytes
+ *
+ * A code is 8 bytes: family code, serial number (low byte first), CRC.
+ *
+ * For every function here:
+ *   - A slice is a pointer and a length. Any length is fine; a length of 0 may go with a null pointer.
+ *   - Buffers of one call must not overlap, and nothing else may change them during the call.
+ *   - Nothing is retained after the call, nothing is allocated, and there is no state between calls: calls on different buffers may
+ *     run at the same time.
+ *   - Every call returns. What it returns and what every buffer then holds is proved, for every input.
+ */
+#ifndef TROUGHIRON_H
+#define TROUGHIRON_H
+
+#include <stddef.h>
+#include <stdint.h>
+
+#ifdef __cplusplus
+extern "C" {
+#endif
+
+/* Events of a trace, one byte each. */
+enum {
+    TROUGHIRON_WRITE_ZERO = 0, /* write-zero slot */
+    TROUGHIRON_WRITE_ONE = 1,  /* write-one slot, which is also the read slot */
+    TROUGHIRON_RESET = 2,      /* reset and presence */
+    TROUGHIRON_PULSE = 3       /* program pulse: only where every device is a DS1982 */
+};
+
+/* The most events of a trace, and the most devices of an image. */
+#define TROUGHIRON_MOST_EVENTS 32768
+#define TROUGHIRON_MOST_DEVICES 64
+
+/*
+ * Runs a trace on the devices of an image. Every device waits for a reset at the start.
+ *
+ * Returns 0 where the run is answered. Then
+ *   - answers[i], for each event i, is the level after it: of a slot 0 if the trace sends 0 or any device pulls low, else 1; of a reset 0 if
+ *     there is a device, else 1; of a pulse 1. Bytes of answers past the trace are as they were.
+ *   - the bodies in image are as the devices are left: registers, flags, scratchpads, memory, status. All else of it is as it was.
+ *
+ * Returns the number of a refusal otherwise, the lowest whose cause is there, and then nothing is changed:
+ *   1  image shorter than 2 + 4n, n over 64, edition not 1, a nonzero second entry byte, or an unknown family
+ *   2  an offset or the image's length differs from the packed layout
+ *   3  a code's CRC is wrong, or its family byte is not its entry's
+ *   4  two devices have the same code
+ *   5  trace of over 32,768 events, or with a byte over 3
+ *   6  a program pulse in the trace while some device is not a DS1982
+ *   7  answers shorter than the trace
+ */
+uint32_t troughiron_run(uint8_t *image, size_t image_length,
+                        const uint8_t *trace, size_t trace_length,
+                        uint8_t *answers, size_t answers_length);
+
+#ifdef __cplusplus
+}
+#endif
+
+#endif
