@@ -18,7 +18,7 @@ pub record Device : Type 0 where
 abbrev pub deviceOf : Kind → List ℕ → LineState → Device
 deviceOf kind body state = record { kind = kind; body = body; state = state }
 
--- one byte per event: 0 write-zero slot, 1 write-one slot (also the read slot), 2 reset, 3 program pulse
+-- one byte per event: 0 write-zero slot, 1 write-one slot (also the read slot), 2 reset, 3 program pulse; a run refuses any other byte
 unfoldable pub eventOf : ℕ → Event
 eventOf byte = cond (eqb byte 0) (Slot false) (cond (eqb byte 1) (Slot true) (cond (eqb byte 2) Reset Pulse))
 

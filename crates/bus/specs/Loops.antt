@@ -58,7 +58,7 @@ turnImage image i state byte level = withBody image (placeOf image i) (nextBody 
 abbrev pub lineAt : List LineState → ℕ → LineState
 lineAt lines i = getD lines i waitingState
 
--- as many devices as the image has, and as line states are lent
+-- the devices that a loop serves: as many as the image has, or as line states are lent, whichever is less
 unfoldable pub servedOf : List ℕ → ℕ → ℕ
 servedOf image lines = cond (ltb lines (countOf image)) lines (countOf image)
 
@@ -89,7 +89,7 @@ unfoldable pub turns : ℕ → Bool → ℕ → BusState → BusState
 turns byte level zero s = s
 turns byte level (suc i) s = turnAt byte level i (turns byte level i s)
 
--- the first i line states are one
+-- the first i line states are all this one
 unfoldable pub filled : ℕ → LineState → List LineState → List LineState
 filled zero state lines = lines
 filled (suc i) state lines = set (filled i state lines) i state

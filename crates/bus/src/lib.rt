@@ -275,7 +275,7 @@ fn turn_all(image: &mut [u8], lines: &mut [LineState], n: usize, byte: u8, level
     }
 }
 
-// The first n line states are one.
+// Makes the first n line states this one.
 fn fill(lines: &mut [LineState], n: usize, state: LineState)
     requires { ⌜ n ≤ length (now lines) ⌝ }
     ensures { λ _. ⌜ now (lines .exit) ≡ filled n state (now (lines .entry)) ⌝ }

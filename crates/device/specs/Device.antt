@@ -132,7 +132,8 @@ waitingState = stateOf waiting
 abbrev pub resetState : LineState
 resetState = stateOf atRomCommand
 
--- a line state with a number outside its stage's range, of another kind, or with a body not of its kind's size is taken as waiting
+-- a line state with a number outside its stage's range, in a memory function of another kind, or with a body not of its kind's size is
+-- taken as waiting; a family that is not known has no bytes of a body
 unfoldable pub taken : LineState → Kind → List ℕ → Stage
 taken state kind body = cond (eqb (length body) (bodySize kind) && stageRange (state .stage) kind) (state .stage) waiting
 

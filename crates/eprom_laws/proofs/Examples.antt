@@ -8,7 +8,7 @@ use lib.ListN.{length, replicate, set}
 use Rattle.bits.specs.Bit.{bitOf, shiftIn}
 use Rattle.bits.specs.Crc.{crcBit, crcBits, crcByte, crcFrom}
 use Rattle.eprom.specs.Eprom.{fieldStart, fieldLength, fieldRead, readCode, writeCode, epromCommand, cut, commandCrc, readLatch, writeLatch, readAddressStep, writeAddressStep, stored, span, afterCrc, readCrcStep, afterByte, readByteStep, writeDataStep, writeCrcStep, nextAddress, storedStep, protected, programmed, epromSends, epromStep, epromPulse, epromProgram}
-use Rattle.eprom_laws.specs.Events.{Event, pulse, slots, levelsSent, bodyAfter}
+use Rattle.eprom_laws.specs.Events.{LineEvent, pulse, slots, levelsSent, bodyAfter}
 use Rattle.eprom_laws.specs.Sent.{lowBits, lineBits}
 
 -- the master writes bytes, or reads them in read slots, or gives a program pulse
@@ -24,7 +24,7 @@ record Row : Type 0 where
   steps : List Step
   after : List ℕ
 
-abbrev events : List Step → List Event
+abbrev events : List Step → List LineEvent
 events [] = []
 events (write bytes ∷ steps) = slots (lineBits bytes) ++ events steps
 events (read bytes ∷ steps) = slots (lineBits bytes) ++ events steps

@@ -19,7 +19,7 @@ use Rattle.line.specs.declared.EpromStage.{EpromStage}
 use Rattle.line.specs.declared.EpromStage.the-variants.{ReadAddress, ReadCrc, ReadByte, WriteAddress, WriteData, WriteCrc, PulseDue, Stored}
 use Rattle.line.specs.declared.Stage.{Stage}
 use Rattle.eprom.specs.Eprom.{inEprom, fieldRead, readStart, writeStart, addressBytes, readLatch, writeLatch, readAddressStep, writeAddressStep, stored, afterCrc, readCrcStep, afterByte, readByteStep, writeDataStep, writeCrcStep, nextAddress, storedStep, epromSends, epromStep}
-use Rattle.eprom_laws.specs.Events.{Event, slot, pulse, slots, stageSends, stageStep, stagePulse, stageProgram, levelsSent, stageAfter, bodyAfter, Over}
+use Rattle.eprom_laws.specs.Events.{LineEvent, slot, pulse, slots, functionSends, functionStep, functionPulse, functionProgram, levelsSent, stageAfter, bodyAfter, Over}
 use Rattle.eprom_laws.specs.Sent.{lowBits, lineBits}
 
 -- ---- bits on the line
@@ -35,29 +35,29 @@ address-bits address = refl
 
 -- ---- events one after another
 
-module _ (fs : List Event) where
-  levels-append : (s : Stage) (body : List ℕ) (es : List Event)
+module _ (fs : List LineEvent) where
+  levels-append : (s : Stage) (body : List ℕ) (es : List LineEvent)
       → levelsSent s body (es ++ fs) ≡ levelsSent s body es ++ levelsSent (stageAfter s body es) (bodyAfter s body es) fs
   unfolding levelsSent stageAfter bodyAfter
   levels-append s body [] = refl
-  levels-append s body (slot l ∷ es) = ap (λ (xs : List Bool). stageSends s body ∷ xs) (levels-append (stageStep s body l) body es)
-  levels-append s body (pulse ∷ es) = levels-append (stagePulse s) (stageProgram s body) es
+  levels-append s body (slot l ∷ es) = ap (λ (xs : List Bool). functionSends s body ∷ xs) (levels-append (functionStep s body l) body es)
+  levels-append s body (pulse ∷ es) = levels-append (functionPulse s) (functionProgram s body) es
 
-  stage-append : (s : Stage) (body : List ℕ) (es : List Event)
+  stage-append : (s : Stage) (body : List ℕ) (es : List LineEvent)
       → stageAfter s body (es ++ fs) ≡ stageAfter (stageAfter s body es) (bodyAfter s body es) fs
   unfolding stageAfter bodyAfter
   stage-append s body [] = refl
-  stage-append s body (slot l ∷ es) = stage-append (stageStep s body l) body es
-  stage-append s body (pulse ∷ es) = stage-append (stagePulse s) (stageProgram s body) es
+  stage-append s body (slot l ∷ es) = stage-append (functionStep s body l) body es
+  stage-append s body (pulse ∷ es) = stage-append (functionPulse s) (functionProgram s body) es
 
-  body-append : (s : Stage) (body : List ℕ) (es : List Event)
+  body-append : (s : Stage) (body : List ℕ) (es : List LineEvent)
       → bodyAfter s body (es ++ fs) ≡ bodyAfter (stageAfter s body es) (bodyAfter s body es) fs
   unfolding stageAfter bodyAfter
   body-append s body [] = refl
-  body-append s body (slot l ∷ es) = body-append (stageStep s body l) body es
-  body-append s body (pulse ∷ es) = body-append (stagePulse s) (stageProgram s body) es
+  body-append s body (slot l ∷ es) = body-append (functionStep s body l) body es
+  body-append s body (pulse ∷ es) = body-append (functionPulse s) (functionProgram s body) es
 
-pub then : {s t u : Stage} {b c d : List ℕ} {es fs : List Event} {xs ys : List Bool} → Over s b es xs t c → Over t c fs ys u d
+pub then : {s t u : Stage} {b c d : List ℕ} {es fs : List LineEvent} {xs ys : List Bool} → Over s b es xs t c → Over t c fs ys u d
     → Over s b (es ++ fs) (xs ++ ys) u d
 then {s} {t} {u} {b} {c} {d} {es} {fs} p q = record {
   levels = levels-append fs s b es ∙ rw (p .levels, p .stage, p .stored, q .levels);
@@ -69,7 +69,7 @@ pub nothing : {s : Stage} {b : List ℕ} → Over s b [] [] s b
 unfolding levelsSent stageAfter bodyAfter
 nothing = record { levels = refl; stage = refl; stored = refl }
 
-pub one-slot : {s t : Stage} {b c : List ℕ} {es : List Event} {x l : Bool} {xs : List Bool} (e : EpromStage)
+pub one-slot : {s t : Stage} {b c : List ℕ} {es : List LineEvent} {x l : Bool} {xs : List Bool} (e : EpromStage)
     → Over s b es xs t c → epromSends e b ≡ x → epromStep e b l ≡ s → Over (inEprom e) b (slot l ∷ es) (x ∷ xs) t c
 unfolding levelsSent stageAfter bodyAfter
 one-slot e r p q = record {
@@ -92,7 +92,7 @@ pub sent-take : (s : Stage) (body : List ℕ) (n : ℕ) (ls : List Bool)
 unfolding slots levelsSent
 sent-take s body zero ls = refl
 sent-take s body (suc n) [] = refl
-sent-take s body (suc n) (l ∷ ls) = ap (λ (xs : List Bool). stageSends s body ∷ xs) (sent-take (stageStep s body l) body n ls)
+sent-take s body (suc n) (l ∷ ls) = ap (λ (xs : List Bool). functionSends s body ∷ xs) (sent-take (functionStep s body l) body n ls)
 
 -- ---- what a device sends
 

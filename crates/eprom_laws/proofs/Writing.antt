@@ -13,7 +13,7 @@ use Rattle.line.specs.declared.EpromStage.{EpromStage}
 use Rattle.line.specs.declared.EpromStage.the-variants.{WriteData, PulseDue, Stored}
 use Rattle.line.specs.declared.Stage.{Stage}
 use Rattle.eprom.specs.Eprom.{inEprom, fieldLength, writeCode, writeStart, epromCommand, cut, addressBytes, commandCrc, writeLatch, stored, programmed, nextAddress, epromPulse, epromProgram}
-use Rattle.eprom_laws.specs.Events.{Event, pulse, slots, levelsSent, stageAfter, bodyAfter, Over}
+use Rattle.eprom_laws.specs.Events.{LineEvent, pulse, slots, levelsSent, stageAfter, bodyAfter, Over}
 use Rattle.eprom_laws.specs.Sent.{lowBits, lineBits}
 use Rattle.eprom_laws.specs.Written.{Written, passEvents, passSent}
 use Rattle.eprom_laws.proofs.Slots.{low-length, then, sent-over, write-crc-sent, stored-sent, write-address-heard, data-heard}
@@ -37,7 +37,7 @@ last-pass field a h = simp (le-ltb _ _ h)
 -- ---- one pass
 
 -- the pulse
-pulse-then : {t : Stage} {b c : List ℕ} {es : List Event} {xs : List Bool} (e : EpromStage)
+pulse-then : {t : Stage} {b c : List ℕ} {es : List LineEvent} {xs : List Bool} (e : EpromStage)
     → Over (epromPulse e) (epromProgram e b) es xs t c → Over (inEprom e) b (pulse ∷ es) xs t c
 unfolding levelsSent stageAfter bodyAfter
 pulse-then e p = record { levels = p .levels; stage = p .stage; stored = p .stored }

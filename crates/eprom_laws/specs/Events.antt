@@ -1,4 +1,4 @@
--- Document 01, 'The trace and its levels': a DS1982 over successive events, from its whole memory command on. The laws of this crate are
+-- Document 01, 'The trace and its levels': a DS1982 over successive events, from the end of its memory command on. The laws of this crate are
 -- stated in these words.
 use Prim.Native.Nat.{ℕ}
 use mathlib.Core.Path.{_≡_}
@@ -11,17 +11,17 @@ use Rattle.line.specs.declared.Stage.{Stage}
 use Rattle.line.specs.declared.Stage.the-variants.{Rom, Memory}
 use Rattle.eprom.specs.Eprom.{inEprom, epromRange, epromSends, epromStep, epromPulse, epromProgram}
 
--- a slot at a level of the line, or a program pulse
-pub data Event : Type 0 where
-  slot : Bool → Event
-  pulse : Event
+-- a slot, with the level of the line in it, or a program pulse
+pub data LineEvent : Type 0 where
+  slot : Bool → LineEvent
+  pulse : LineEvent
 
 -- successive slots
-unfoldable pub slots : List Bool → List Event
+unfoldable pub slots : List Bool → List LineEvent
 slots [] = []
 slots (level ∷ levels) = slot level ∷ slots levels
 
--- what a memory function says, or of a device that has left it the other
+-- what holds in a memory function, and what in any other stage
 abbrev pub inFunction : {A : Type 0} → Stage → (EpromStage → A) → A → A
 inFunction (Memory (Eprom e)) f other = f e
 inFunction (Memory (Command bits value)) f other = other
@@ -29,17 +29,17 @@ inFunction (Memory (Sram s)) f other = other
 inFunction (Rom r) f other = other
 
 -- a device that has left its memory function waits and answers 1
-abbrev pub stageSends : Stage → List ℕ → Bool
-stageSends s body = inFunction s (λ e. epromSends e body) true
+abbrev pub functionSends : Stage → List ℕ → Bool
+functionSends s body = inFunction s (λ e. epromSends e body) true
 
-abbrev pub stageStep : Stage → List ℕ → Bool → Stage
-stageStep s body level = inFunction s (λ e. epromStep e body level) s
+abbrev pub functionStep : Stage → List ℕ → Bool → Stage
+functionStep s body level = inFunction s (λ e. epromStep e body level) s
 
-abbrev pub stagePulse : Stage → Stage
-stagePulse s = inFunction s epromPulse s
+abbrev pub functionPulse : Stage → Stage
+functionPulse s = inFunction s epromPulse s
 
-abbrev pub stageProgram : Stage → List ℕ → List ℕ
-stageProgram s body = inFunction s (λ e. epromProgram e body) body
+abbrev pub functionProgram : Stage → List ℕ → List ℕ
+functionProgram s body = inFunction s (λ e. epromProgram e body) body
 
 -- the device waits, or is in a memory function with its numbers in range
 pub data Ranged : Stage → Type 0 where
@@ -47,23 +47,23 @@ pub data Ranged : Stage → Type 0 where
   ranged : (e : EpromStage) → epromRange e ≡ true → Ranged (inEprom e)
 
 -- over successive events: the levels that the device sends in the slots, its stage and its body afterwards
-unfoldable pub levelsSent : Stage → List ℕ → List Event → List Bool
+unfoldable pub levelsSent : Stage → List ℕ → List LineEvent → List Bool
 levelsSent s body [] = []
-levelsSent s body (slot level ∷ events) = stageSends s body ∷ levelsSent (stageStep s body level) body events
-levelsSent s body (pulse ∷ events) = levelsSent (stagePulse s) (stageProgram s body) events
+levelsSent s body (slot level ∷ events) = functionSends s body ∷ levelsSent (functionStep s body level) body events
+levelsSent s body (pulse ∷ events) = levelsSent (functionPulse s) (functionProgram s body) events
 
-unfoldable pub stageAfter : Stage → List ℕ → List Event → Stage
+unfoldable pub stageAfter : Stage → List ℕ → List LineEvent → Stage
 stageAfter s body [] = s
-stageAfter s body (slot level ∷ events) = stageAfter (stageStep s body level) body events
-stageAfter s body (pulse ∷ events) = stageAfter (stagePulse s) (stageProgram s body) events
+stageAfter s body (slot level ∷ events) = stageAfter (functionStep s body level) body events
+stageAfter s body (pulse ∷ events) = stageAfter (functionPulse s) (functionProgram s body) events
 
-unfoldable pub bodyAfter : Stage → List ℕ → List Event → List ℕ
+unfoldable pub bodyAfter : Stage → List ℕ → List LineEvent → List ℕ
 bodyAfter s body [] = body
-bodyAfter s body (slot level ∷ events) = bodyAfter (stageStep s body level) body events
-bodyAfter s body (pulse ∷ events) = bodyAfter (stagePulse s) (stageProgram s body) events
+bodyAfter s body (slot level ∷ events) = bodyAfter (functionStep s body level) body events
+bodyAfter s body (pulse ∷ events) = bodyAfter (functionPulse s) (functionProgram s body) events
 
 -- from a stage and a body, over events, the device sends these levels and comes to this stage and this body
-pub record Over (s : Stage) (body : List ℕ) (events : List Event) (sent : List Bool) (t : Stage) (after : List ℕ) : Type 0 where
+pub record Over (s : Stage) (body : List ℕ) (events : List LineEvent) (sent : List Bool) (t : Stage) (after : List ℕ) : Type 0 where
   pub levels : levelsSent s body events ≡ sent
   pub stage : stageAfter s body events ≡ t
   pub stored : bodyAfter s body events ≡ after

@@ -43,7 +43,7 @@ readBytes ReadMemory start bytes = withCrc bytes
 readBytes ReadStatus start bytes = withCrc bytes
 readBytes ReadPages start bytes = pageByPage (4 - start / pageLength) (pageLength - start % pageLength) bytes
 
--- all that a read sends from a start address on: the CRC of command and address first
+-- all that a read sends from a start address on, as it was cut: the CRC of command and address first
 unfoldable pub readSent : EpromRead → ℕ → List ℕ → List ℕ
 readSent read start body =
     commandCrc (readCode read) start ∷ readBytes read start (drop start (fieldOf (fieldRead read) body))

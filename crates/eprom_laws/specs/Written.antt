@@ -9,7 +9,7 @@ use Rattle.line.specs.declared.Field.{Field}
 use Rattle.line.specs.declared.EpromStage.the-variants.{WriteData}
 use Rattle.line.specs.declared.Stage.{Stage}
 use Rattle.eprom.specs.Eprom.{inEprom, stored, programmed, nextAddress}
-use Rattle.eprom_laws.specs.Events.{Event, pulse, slots}
+use Rattle.eprom_laws.specs.Events.{LineEvent, pulse, slots}
 use Rattle.eprom_laws.specs.Sent.{lowBits}
 
 -- a byte that is written, with the line's levels while the device sends its CRC and the stored byte
@@ -22,7 +22,7 @@ pub record Written : Type 0 where
   pub backEight : length backLevels ≡ 8
 
 -- a pass: the data byte, its CRC, the pulse, the stored byte
-unfoldable pub passEvents : Written → List Event
+unfoldable pub passEvents : Written → List LineEvent
 passEvents w = (slots (lowBits 8 (w .byte)) ++ slots (w .crcLevels)) ++ (pulse ∷ slots (w .backLevels))
 
 -- what the device sends in it at an address, with the register as it is at its start: ones, the CRC, the byte that is then stored
@@ -31,11 +31,13 @@ passSent field address register byte body =
     (replicate 8 true ++ lowBits 8 (crcFrom register (byte ∷ [])))
     ++ lowBits 8 (stored field address (programmed field address byte body))
 
--- passes from an address on; before each later one the register is loaded with the new address
-unfoldable pub writeEvents : List Written → List Event
+-- passes one after another
+unfoldable pub writeEvents : List Written → List LineEvent
 writeEvents [] = []
 writeEvents (w ∷ ws) = passEvents w ++ writeEvents ws
 
+-- what the device sends in them from an address on, as long as the field goes; before each later pass the register is loaded with the
+-- new address
 unfoldable pub writeSent : Field → ℕ → ℕ → List Written → List ℕ → List Bool
 writeSent field address register [] body = []
 writeSent field address register (w ∷ ws) body =

@@ -1,4 +1,4 @@
--- Document 01, 'The image': table of contents first, then the bodies.
+-- Document 01, 'The image': table of contents first, then the bodies of the devices (document 01's buttons).
 use Prim.Native.Nat.{ℕ, zero, suc, _+_, _*_}
 use mathlib.Core.List.{List}
 use lib.ListN.{getD, take, drop}

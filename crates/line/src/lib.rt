@@ -29,7 +29,7 @@ pub enum SramStage {
     // Read scratchpad: TA1, TA2 and E/S, then the scratchpad.
     ReadRegisters { at: u8 },
     ReadScratchpad { at: u16 },
-    // Copy scratchpad: the pattern, and whether all its bits so far were those of the registers; then done.
+    // Copy scratchpad: the pattern, and whether all its bits so far were those of the registers; then 0 is answered until a reset.
     CopyPattern { at: u8, same: bool },
     Copied,
     // Read memory: the address, then the memory.

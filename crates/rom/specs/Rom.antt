@@ -21,7 +21,7 @@ romRange (Read at) = ltb at 64
 romRange (Match at) = ltb at 64
 romRange (Search at slot) = ltb at 64
 
--- skip, or the end of the 64 bits, leads to the memory command
+-- skip, or the end of the 64 bits, leads to the memory command: the one way out of the ROM stage to the memory
 abbrev pub addressed : Stage
 addressed = atMemoryCommand
 

@@ -55,14 +55,14 @@ unfoldable pub copyLength : ℕ → List ℕ → ℕ
 copyLength size body =
     cond (ltb (endingOffset body) (targetOffset body) || leb size (target body)) 0 (endingOffset body + 1 - targetOffset body)
 
--- these bytes of the scratchpad
+-- the bytes of the scratchpad that are copied
 unfoldable pub copyBytes : ℕ → List ℕ → List ℕ
 copyBytes size body = take (copyLength size body) (drop (scratchpad + targetOffset body) body)
 
--- go to memory at the target
+-- the body with these bytes in memory at the target
 unfoldable pub copyToMemory : ℕ → List ℕ → List ℕ
 copyToMemory size body = sets body (memory + target body) (copyBytes size body)
 
--- and AA is set
+-- an accepted copy: the bytes are copied, and AA is set
 unfoldable pub acceptCopy : ℕ → List ℕ → List ℕ
 acceptCopy size body = putBit (copyToMemory size body) aa true

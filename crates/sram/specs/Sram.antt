@@ -68,7 +68,7 @@ afterReadScratchpad at = cond (ltb at 255) (inSram (ReadScratchpad (at + 1))) wa
 
 -- ---- copy scratchpad: 24 bits, compared with TA1, TA2, E/S after the last
 
--- whether this bit and those before it are the registers'
+-- whether this bit and those before it are the registers', which no slot changes in between: after the last the whole pattern is compared
 unfoldable pub patternSame : ℕ → Bool → List ℕ → Bool → Bool
 patternSame at same body level = same && Bool·beq (bitAt body (8 * ta1 + at)) level
 
