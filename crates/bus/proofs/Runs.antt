@@ -2,19 +2,16 @@
 --     run-append       the run of t ++ u is the run of u on what t leaves
 --     run-length       one answer per event
 --     Same, run-same   a run changes no device's kind, no body's length and no code
---     level-more       the level with one device more on the line
 use Prim.Native.Nat.{ℕ, zero, suc}
 use mathlib.Core.Path.{_≡_, refl, sym, ap, _∙_}
-use mathlib.Core.Bool.{Bool, true, false, not, _&&_, _||_, or-false, or-assoc}
+use mathlib.Core.Bool.{Bool}
 use mathlib.Core.List.{List, [], _∷_, _++_, map}
 use lib.ListN.{length, take, drop}
 use Rattle.kind.specs.Kind.{codeLength}
-use Rattle.device.specs.Device.{sendsOf}
 use Rattle.device.proofs.Laws.{write-length, reset-length, program-length, write-code, reset-code, program-code}
 use Rattle.bus.specs.declared.Event.{Event}
 use Rattle.bus.specs.declared.Event.the-variants.{Slot, Reset, Pulse}
-use Rattle.bus.specs.Bus.{Device, eventOf, pullsLow, someLow, presence, levelOf, nextBody, nextDevice, busStepAt, busStep, Run, answerOf, withAnswer, runTrace}
-use Rattle.bus.specs.Loops.{deviceLevel}
+use Rattle.bus.specs.Bus.{Device, eventOf, nextBody, nextDevice, busStepAt, busStep, Run, answerOf, withAnswer, runTrace}
 
 -- ---- one trace after another
 
@@ -85,22 +82,3 @@ pub part-same : (event : Event) (level : Bool) (i : ℕ) (ds : List Device) → 
 part-same event level zero ds = all-self ds
 part-same event level (suc i) [] = none
 part-same event level (suc i) (d ∷ ds) = also (next-same event level d) (part-same event level i ds)
-
--- ---- the level with one device more on the line
-low-more : (xs : List Device) (d : Device) → someLow (xs ++ d ∷ []) ≡ (someLow xs || pullsLow d)
-unfolding someLow
-low-more [] d = or-false (pullsLow d)
-low-more (x ∷ xs) d = ap (λ (b : Bool). pullsLow x || b) (low-more xs d) ∙ sym (or-assoc (pullsLow x) (someLow xs) (pullsLow d))
-
-slot-more : (a b c : Bool) → not (a || (b || not c)) ≡ (not (a || b) && c)
-slot-more true b c = refl
-slot-more false true c = refl
-slot-more false false true = refl
-slot-more false false false = refl
-
-pub level-more : (event : Event) (xs : List Device) (d : Device) → levelOf event (xs ++ d ∷ []) ≡ (levelOf event xs && deviceLevel event d)
-unfolding levelOf deviceLevel pullsLow presence
-level-more (Slot sent) xs d = ap (λ (b : Bool). not (not sent || b)) (low-more xs d) ∙ slot-more (not sent) (someLow xs) (sendsOf (d .state) (d .kind) (d .body))
-level-more Reset [] d = refl
-level-more Reset (x ∷ xs) d = refl
-level-more Pulse xs d = refl

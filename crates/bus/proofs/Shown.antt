@@ -1,13 +1,13 @@
 -- Where the image is not refused and there is room, what the loops of `specs/Loops.antt` do is what `specs/Bus.antt` and `specs/Run.antt` say.
 use Prim.Native.Nat.{ℕ, zero, suc, _+_, _-_, _*_, _<_, _≤_}
 use mathlib.Core.Path.{_≡_, refl, sym, ap, subst, _∙_}
-use mathlib.Core.Bool.{Bool, true, false, not, cond, _&&_, _||_}
+use mathlib.Core.Bool.{Bool, not}
 use mathlib.Core.List.{List, [], _∷_, _++_, map, append-assoc, append-nil, map-append}
 use native.Mathlib.Omega.{arith}
 use native.Mathlib.Nat.{add-zero}
 use native.Mathlib.Numerals.{add-one}
 use lib.ListN.{length, getD, set, take, drop, replicate, length-append, length-map, length-replicate, take-append-drop, replicate-append-replicate, List·getD-append}
-use lib.Seq.{length-take-le, getD-take, take-at, drop-at, getD-at, set-at, drop-append-add, take-suc, drop-cons, split-at, append-snoc, take-length, drop-length, drop-drop}
+use lib.Seq.{length-take-le, getD-take, take-at, drop-at, getD-at, set-at, drop-append-add, take-suc, drop-cons, append-snoc, take-length, drop-length, drop-drop}
 use lib.Dec.{T, ltb, leb, eqb}
 use borrow.Author.Tests.{lt-ltb, le-ltb, le-leb}
 use Rattle.kind.specs.declared.Kind.{Kind}
@@ -17,15 +17,13 @@ use Rattle.image.specs.Image.{countOf, familyAt, offsetAt, kindAt, packedAt, bo
 use Rattle.image.proofs.Accepted.{Known, accepted-known, body-length, body-code}
 use Rattle.device.specs.declared.LineState.{LineState}
 use Rattle.device.specs.Device.{waitingState}
-use Rattle.bus.specs.declared.Event.{Event}
-use Rattle.bus.specs.declared.Event.the-variants.{Slot, Reset, Pulse}
 use Rattle.bus.specs.declared.Place.{Place}
-use Rattle.bus.specs.Bus.{Device, deviceOf, eventOf, someLow, presence, levelOf, nextState, nextBody, nextDevice, busStepAt, busStep, Run, answerOf, withAnswer, runTrace}
+use Rattle.bus.specs.Bus.{Device, deviceOf, eventOf, levelOf, nextState, nextBody, nextDevice, busStepAt, busStep, Run, answerOf, withAnswer, runTrace}
 use Rattle.bus.specs.Run.{devicesFrom, waitingDevices, headerOf, bodiesOf, statesOf, outcome, leftBy, runAt, runOf}
 use Rattle.bus.specs.Refusal.{runRefusal}
-use Rattle.bus.specs.Loops.{placeOf, deviceAt, deviceIn, withBody, masterLevel, deviceLevel, turnState, turnImage, lineAt, servedOf, levelWith, levelOn, BusState, busState, turnAt, turns, filled, RunState, runState, eventAt, events}
+use Rattle.bus.specs.Loops.{placeOf, deviceAt, deviceIn, withBody, turnState, turnImage, devicesIn, levelOn, servedOf, lineAt, BusState, busState, turnAt, turns, filled, RunState, runState, eventAt, events}
 use Rattle.bus.proofs.Laws.{admitted}
-use Rattle.bus.proofs.Runs.{runAfter, run-append, run-length, run-same, AllSame, none, also, part-same, same-length, level-more}
+use Rattle.bus.proofs.Runs.{runAfter, run-append, run-length, run-same, AllSame, none, also, part-same, same-length}
 
 -- ---- devices that stand at the entries of an image from i on
 pub record Entered (image : List ℕ) (i : ℕ) (d : Device) : Type 0 where
@@ -78,13 +76,6 @@ place-known image i h fits = rw (lt-ltb i (countOf image) h, le-leb (offsetAt im
 -- what stands past the end of a list of devices, which nothing reads
 abbrev pub nobody : Device
 nobody = deviceOf Unknown [] waitingState
-
-level-none : (event : Event) → masterLevel event ≡ levelOf event []
-unfolding masterLevel levelOf someLow presence
-level-none (Slot true) = refl
-level-none (Slot false) = refl
-level-none Reset = refl
-level-none Pulse = refl
 
 module _ (image : List ℕ) (known : Known image) where
   -- the image of devices: its header is this image's
@@ -214,6 +205,19 @@ module _ (image : List ℕ) (known : Known image) where
         ∙ ap (λ (l : List ℕ). busState l (set L i (e .state))) (body-put xs d ys stand all e)
         ∙ ap (λ (l : List LineState). busState (imageOf (xs ++ e ∷ ys)) l) (line-put xs d e ys)
 
+    -- the devices that the image and the line states give are those that stand there
+    devices-are : (xs ys : List Device) → Stand image 0 (xs ++ ys) → length (xs ++ ys) ≡ countOf image → devicesIn (imageOf (xs ++ ys)) (length xs) (statesOf ys) ≡ ys
+    unfolding devicesIn
+    devices-are xs [] stand all = refl
+    devices-are xs (d ∷ ys) stand all =
+        let cut : (xs ++ d ∷ []) ++ ys ≡ xs ++ d ∷ ys = append-snoc xs d ys in
+        let len : length (xs ++ d ∷ []) ≡ suc (length xs) = omega (arith, length-append xs (d ∷ [])) in
+        ap (λ (c : Device). c ∷ devicesIn (imageOf (xs ++ d ∷ ys)) (suc (length xs)) (statesOf ys)) (device-is xs d ys stand all)
+        ∙ ap (λ (l : List Device). d ∷ l)
+        (ap (λ (l : List Device). devicesIn (imageOf l) (suc (length xs)) (statesOf ys)) (sym cut)
+        ∙ ap (λ (m : ℕ). devicesIn (imageOf ((xs ++ d ∷ []) ++ ys)) m (statesOf ys)) (sym len)
+        ∙ devices-are (xs ++ d ∷ []) ys (subst (Stand image 0) (sym cut) stand) (ap length cut ∙ all))
+
     module _ (ds : List Device) (stand : Stand image 0 ds) (all : length ds ≡ countOf image) where
       -- the turns of the first i devices
       turns-are : (byte : ℕ) (level : Bool) (i : ℕ) → i ≤ length ds → turns byte level i (busStateOf ds) ≡ busStateOf (map (nextDevice (eventOf byte) level) (take i ds) ++ drop i ds)
@@ -232,42 +236,13 @@ module _ (image : List ℕ) (known : Known image) where
           ∙ turn-is byte level xs d ys (stand-same image 0 same stand) (same-length same ∙ all)
           ∙ ap busStateOf (sym (ap (λ (l : List Device). map f l ++ ys) (take-suc ds i nobody h) ∙ ap (λ (l : List Device). l ++ ys) (map-append f (take i ds) (d ∷ [])) ∙ append-snoc xs (f d) ys))
 
-      -- device i of the list is device i of the image
-      device-at : (i : ℕ) → i < length ds → deviceIn (imageOf ds) i (lineAt (linesOf ds) i) ≡ getD ds i nobody
-      device-at i h =
-          let d = getD ds i nobody in
-          let xs = take i ds in
-          let ys = drop (suc i) ds in
-          let cut : ds ≡ xs ++ d ∷ ys = split-at ds i nobody h in
-          let len : length xs ≡ i = length-take-le i ds (omega arith) in
-          ap (λ (l : List Device). deviceIn (imageOf l) i (lineAt (linesOf l) i)) cut
-          ∙ ap (λ (j : ℕ). deviceIn (imageOf (xs ++ d ∷ ys)) j (lineAt (linesOf (xs ++ d ∷ ys)) j)) (sym len)
-          ∙ ap (λ (s : LineState). deviceIn (imageOf (xs ++ d ∷ ys)) (length xs) s) (line-is xs d ys)
-          ∙ device-is xs d ys (subst (Stand image 0) cut stand) (sym (ap length cut) ∙ all)
-
-      -- the level with the first i devices on the line
-      level-are : (byte i : ℕ) → i ≤ length ds → levelWith (imageOf ds) (linesOf ds) byte i ≡ levelOf (eventOf byte) (take i ds)
-      unfolding levelWith
-      level-are byte zero h = level-none (eventOf byte)
-      level-are byte (suc i) h =
-          let d = getD ds i nobody in
-          ap (λ (b : Bool). b && deviceLevel (eventOf byte) (deviceIn (imageOf ds) i (lineAt (linesOf ds) i))) (level-are byte i (omega arith))
-          ∙ ap (λ (c : Device). levelOf (eventOf byte) (take i ds) && deviceLevel (eventOf byte) c) (device-at i h)
-          ∙ sym (level-more (eventOf byte) (take i ds) d)
-          ∙ ap (levelOf (eventOf byte)) (sym (take-suc ds i nobody h))
-
-      served-all : servedOf (imageOf ds) (length (linesOf ds)) ≡ length ds
-      unfolding servedOf
-      served-all =
-          let enough : countOf (imageOf ds) ≤ length (linesOf ds) = omega (arith, count-kept ds, all, length-append (statesOf ds) tail, length-map ds (λ (x : Device). x .state)) in
-          rw (le-ltb (length (linesOf ds)) (countOf (imageOf ds)) enough) (count-kept ds ∙ sym all)
-
       pub level-is : (byte : ℕ) → levelOn (imageOf ds) (linesOf ds) byte ≡ levelOf (eventOf byte) ds
       unfolding levelOn
       level-is byte =
-          ap (levelWith (imageOf ds) (linesOf ds) byte) served-all
-          ∙ level-are byte (length ds) (omega arith)
-          ∙ ap (levelOf (eventOf byte)) (take-length ds)
+          let len : length (statesOf ds) ≡ countOf image = length-map ds (λ (x : Device). x .state) ∙ all in
+          ap (λ (n : ℕ). levelOf (eventOf byte) (devicesIn (imageOf ds) 0 (take n (linesOf ds)))) (count-kept ds)
+          ∙ ap (λ (l : List LineState). levelOf (eventOf byte) (devicesIn (imageOf ds) 0 l)) (take-at (statesOf ds) tail (countOf image) len)
+          ∙ ap (levelOf (eventOf byte)) (devices-are [] ds stand all)
 
       pub turned-is : (byte : ℕ) (level : Bool) → turns byte level (length ds) (busStateOf ds) ≡ busStateOf (map (nextDevice (eventOf byte) level) ds)
       turned-is byte level =

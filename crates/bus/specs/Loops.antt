@@ -2,7 +2,7 @@
 -- made. Where the image is not refused and there is room this is what `Bus.antt` and `Run.antt` say (`proofs/Shown.antt`).
 use Prim.Native.Nat.{ℕ, zero, suc, _+_, _-_}
 use mathlib.Core.Bool.{Bool, true, false, cond, _&&_}
-use mathlib.Core.List.{List, _++_}
+use mathlib.Core.List.{List, [], _∷_, _++_}
 use lib.ListN.{length, getD, set, take, drop}
 use lib.Dec.{ltb, leb}
 use Rattle.kind.specs.declared.Kind.the-variants.{Unknown}
@@ -13,7 +13,7 @@ use Rattle.device.specs.Device.{waitingState, sendsOf}
 use Rattle.bus.specs.declared.Event.{Event}
 use Rattle.bus.specs.declared.Event.the-variants.{Slot, Reset, Pulse}
 use Rattle.bus.specs.declared.Place.{Place}
-use Rattle.bus.specs.Bus.{Device, deviceOf, eventOf, nextState, nextBody, answerOf}
+use Rattle.bus.specs.Bus.{Device, deviceOf, eventOf, levelOf, nextState, nextBody, answerOf}
 
 -- ---- one device
 
@@ -34,6 +34,28 @@ deviceIn image i state = deviceAt image (placeOf image i) state
 unfoldable pub withBody : List ℕ → Place → List ℕ → List ℕ
 withBody image place body = take (place .start) image ++ (body ++ drop (place .end) image)
 
+-- a device's turn in an event at a level
+unfoldable pub turnState : List ℕ → ℕ → LineState → ℕ → Bool → LineState
+turnState image i state byte level = nextState (eventOf byte) level (deviceIn image i state)
+
+unfoldable pub turnImage : List ℕ → ℕ → LineState → ℕ → Bool → List ℕ
+turnImage image i state byte level = withBody image (placeOf image i) (nextBody (eventOf byte) level (deviceIn image i state))
+
+-- ---- the level of an event
+
+-- the devices from entry i on that an image and line states give
+unfoldable pub devicesIn : List ℕ → ℕ → List LineState → List Device
+devicesIn image i [] = []
+devicesIn image i (state ∷ states) = deviceIn image i state ∷ devicesIn image (suc i) states
+
+-- the level of an event on them: there are as many as the image has entries, or as line states are lent
+unfoldable pub levelOn : List ℕ → List LineState → ℕ → Bool
+levelOn image lines byte = levelOf (eventOf byte) (devicesIn image 0 (take (countOf image) lines))
+
+-- how many that are
+unfoldable pub servedOf : List ℕ → ℕ → ℕ
+servedOf image lines = cond (ltb lines (countOf image)) lines (countOf image)
+
 -- the level at which the master, or a device, leaves the line in an event. At a reset a device answers presence
 unfoldable pub masterLevel : Event → Bool
 masterLevel (Slot sent) = sent
@@ -45,31 +67,11 @@ deviceLevel (Slot sent) d = sendsOf (d .state) (d .kind) (d .body)
 deviceLevel Reset d = false
 deviceLevel Pulse d = true
 
--- a device's turn in an event at a level
-unfoldable pub turnState : List ℕ → ℕ → LineState → ℕ → Bool → LineState
-turnState image i state byte level = nextState (eventOf byte) level (deviceIn image i state)
-
-unfoldable pub turnImage : List ℕ → ℕ → LineState → ℕ → Bool → List ℕ
-turnImage image i state byte level = withBody image (placeOf image i) (nextBody (eventOf byte) level (deviceIn image i state))
-
--- ---- all devices
+-- ---- the turns of all devices
 
 -- a line state that a slice does not have is waiting
 abbrev pub lineAt : List LineState → ℕ → LineState
 lineAt lines i = getD lines i waitingState
-
--- the devices that a loop serves: as many as the image has, or as line states are lent, whichever is less
-unfoldable pub servedOf : List ℕ → ℕ → ℕ
-servedOf image lines = cond (ltb lines (countOf image)) lines (countOf image)
-
--- the level of the line with the master and the first i devices on it
-unfoldable pub levelWith : List ℕ → List LineState → ℕ → ℕ → Bool
-levelWith image lines byte zero = masterLevel (eventOf byte)
-levelWith image lines byte (suc i) = levelWith image lines byte i && deviceLevel (eventOf byte) (deviceIn image i (lineAt lines i))
-
--- and with all devices that have a line state
-unfoldable pub levelOn : List ℕ → List LineState → ℕ → Bool
-levelOn image lines byte = levelWith image lines byte (servedOf image (length lines))
 
 -- image and line states after a turn of device i, and after the turns of the first i devices
 pub record BusState : Type 0 where
@@ -89,7 +91,7 @@ unfoldable pub turns : ℕ → Bool → ℕ → BusState → BusState
 turns byte level zero s = s
 turns byte level (suc i) s = turnAt byte level i (turns byte level i s)
 
--- the first i line states are all this one
+-- the first i line states set to one state
 unfoldable pub filled : ℕ → LineState → List LineState → List LineState
 filled zero state lines = lines
 filled (suc i) state lines = set (filled i state lines) i state

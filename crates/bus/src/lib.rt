@@ -16,21 +16,29 @@ ghost use Rattle.bus.specs.Refusal.{someByte, badTrace, isEprom, badPuls
 ghost use Rattle.bus.specs.Run.{outcome, runOf};
 ghost use Rattle.bus.specs.Loops.{placeOf, deviceAt, deviceIn, masterLevel, deviceLevel, turnState, turnImage, servedOf, levelOn, busState, turns, filled, runState, events};
 
-// What the master does: a slot in which it sends a bit, a reset, or a program pulse.
+// An event on the line: a slot in which the master sends a bit, a reset, or a program pulse.
 pub enum Event {
     Slot(bool),
     Reset,
     Pulse,
 }
 
-// A device's kind, and where its body lies in the image.
+// A device's kind, and the part of the image that is its body.
 struct Place {
     kind: Kind,
     start: usize,
     end: usize,
 }
 
-// The event of a byte of a trace: 0 and 1 are slots, 2 is a reset, any other the program pulse.
+// The number of a run that is not refused.
+const ACCEPTED: u32 = 0;
+
+// The longest trace that is run.
+const MOST_EVENTS: usize = 32768;
+
+// ---- one device
+
+// The event that a byte of a trace names: 0 and 1 are slots, 2 is a reset, any other is taken as the program pulse.
 fn event_of(byte: u8) -> Event
     ensures { λ r. ⌜ r ≡ eventOf byte ⌝ }
 {
@@ -48,7 +56,8 @@ fn wide(byte: u8) -> usize
     byte as usize
 }
 
-// The place of device i, found from its entry: that costs a constant.
+// The place of device i, found from its entry: that costs a constant. A device that the image does not have, or has no room for, has an
+// empty body and no kind.
 fn place_of(image: &[u8], i: usize) -> Place
     ensures { λ r. ⌜ r ≡ placeOf (now (image .entry)) i ⌝ }
 {
@@ -68,7 +77,7 @@ fn place_of(image: &[u8], i: usize) -> Place
     }
 }
 
-// The level at which the master alone leaves the line.
+// The level at which the master leaves the line.
 fn master_level(byte: u8) -> bool
     ensures { λ r. ⌜ r ≡ masterLevel (eventOf byte) ⌝ }
 {
@@ -79,7 +88,7 @@ fn master_level(byte: u8) -> bool
     }
 }
 
-// The level at which a device leaves the line: in a slot what it sends; at a reset it answers presence.
+// The level at which a device leaves the line: in a slot what it sends, at a reset the 0 of its presence.
 fn device_level(byte: u8, state: LineState, kind: Kind, body: &[u8]) -> bool
     ensures { λ r. ⌜ r ≡ deviceLevel (eventOf byte) (deviceOf kind (now (body .entry)) state) ⌝ }
 {
@@ -90,7 +99,7 @@ fn device_level(byte: u8, state: LineState, kind: Kind, body: &[u8]) -> bool
     }
 }
 
-// The level of the line with device i on it as well.
+// The level of the line with device i on it as well. Where it is low already the device is not asked.
 fn level_with(image: &[u8], i: usize, state: LineState, byte: u8, level: bool) -> bool
     ensures { λ r. ⌜ r ≡ (level && deviceLevel (eventOf byte) (deviceIn (now (image .entry)) i state)) ⌝ }
 {
@@ -104,7 +113,7 @@ fn level_with(image: &[u8], i: usize, state: LineState, byte: u8, level: bool) -
     device_level(byte, state, kind, &image[start..end])
 }
 
-// A device's next line state, and what becomes of its body.
+// What an event at a level makes of a device: its next line state, and its body. In a slot the device is given the level of the line.
 fn device_next(byte: u8, level: bool, state: LineState, kind: Kind, body: &mut [u8]) -> LineState
     ensures { λ r. ⌜ (r ≡ nextState (eventOf byte) level (deviceOf kind (now (body .entry)) state)) × (now (body .exit) ≡ nextBody (eventOf byte) level (deviceOf kind (now (body .entry)) state)) ⌝ }
 {
@@ -119,7 +128,7 @@ fn device_next(byte: u8, level: bool, state: LineState, kind: Kind, body: &mut [
     }
 }
 
-// Device i takes its turn in an event.
+// The same of device i, in the image.
 fn turn(image: &mut [u8], i: usize, state: LineState, byte: u8, level: bool) -> LineState
     ensures { λ r. ⌜ (r ≡ turnState (now (image .entry)) i state byte level) × (now (image .exit) ≡ turnImage (now (image .entry)) i state byte level) ⌝ }
 {
@@ -130,7 +139,7 @@ fn turn(image: &mut [u8], i: usize, state: LineState, byte: u8, level: bool) -> 
     device_next(byte, level, state, kind, &mut image[start..end])
 }
 
-// How many devices have a line state.
+// How many devices have a line state: n, or the line states where there are fewer.
 fn served(image: &[u8], lines: usize) -> usize
     ensures { λ r. ⌜ r ≡ servedOf (now (image .entry)) lines ⌝ }
 {
@@ -141,7 +150,9 @@ fn served(image: &[u8], lines: usize) -> usize
     n
 }
 
-// Whether a byte of a trace is over 3.
+// ---- why a run is refused
+
+// A byte of the trace is over 3.
 fn has_unknown_event(trace: &[u8]) -> bool
     ensures { λ r. ⌜ r ≡ someByte (λ byte. ltb 3 byte) (now (trace .entry)) ⌝ }
 {
@@ -159,13 +170,13 @@ fn has_unknown_event(trace: &[u8]) -> bool
 fn is_bad_trace(trace: &[u8]) -> bool
     ensures { λ r. ⌜ r ≡ badTrace (now (trace .entry)) ⌝ }
 {
-    if 32768 < trace.len() {
+    if MOST_EVENTS < trace.len() {
         return true;
     }
     has_unknown_event(trace)
 }
 
-// Whether a trace has a program pulse.
+// A program pulse, a 3, is in the trace.
 fn has_pulse(trace: &[u8]) -> bool
     ensures { λ r. ⌜ r ≡ someByte (λ byte. eqb byte 3) (now (trace .entry)) ⌝ }
 {
@@ -189,7 +200,7 @@ fn is_eprom(kind: Kind) -> bool
     }
 }
 
-// Whether a device is not a DS1982.
+// Some device is not a DS1982.
 fn has_other_kind(image: &[u8]) -> bool
     ensures { λ r. ⌜ r ≡ someBelow (countOf (now (image .entry))) (λ i. not (isEprom (kindAt (now (image .entry)) i))) ⌝ }
 {
@@ -231,7 +242,7 @@ fn refusal(image: &[u8], trace: &[u8], answers: usize, lines: usize) -> u32
     ensures { λ r. ⌜ r ≡ runRefusal (now (image .entry)) (now (trace .entry)) answers lines ⌝ }
 {
     let number = image::refusal(image);
-    if number != 0 {
+    if number != ACCEPTED {
         return number;
     }
     if is_bad_trace(trace) {
@@ -243,10 +254,12 @@ fn refusal(image: &[u8], trace: &[u8], answers: usize, lines: usize) -> u32
     if lacks_room(image, trace, answers, lines) {
         return 7;
     }
-    0
+    ACCEPTED
 }
 
-// The level of an event: each device that has a line state is asked in turn.
+// ---- all devices
+
+// The level of an event, of any image and any line states. It reads only.
 pub fn level(image: &[u8], lines: &[LineState], byte: u8) -> bool
     ensures { λ r. ⌜ r ≡ levelOn (now (image .entry)) (now (lines .entry)) byte ⌝ }
 {
@@ -261,7 +274,7 @@ pub fn level(image: &[u8], lines: &[LineState], byte: u8) -> bool
     level
 }
 
-// Each of the first n devices takes its turn in an event.
+// Each of the first n devices, one after the other, at the level of the event. No device's part depends on another's turn.
 fn turn_all(image: &mut [u8], lines: &mut [LineState], n: usize, byte: u8, level: bool)
     requires { ⌜ n ≤ length (now lines) ⌝ }
     ensures { λ _. ⌜ busState (now (image .exit)) (now (lines .exit)) ≡ turns byte level n (busState (now (image .entry)) (now (lines .entry))) ⌝ }
@@ -275,7 +288,7 @@ fn turn_all(image: &mut [u8], lines: &mut [LineState], n: usize, byte: u8, level
     }
 }
 
-// Makes the first n line states this one.
+// Sets the first n line states to one state.
 fn fill(lines: &mut [LineState], n: usize, state: LineState)
     requires { ⌜ n ≤ length (now lines) ⌝ }
     ensures { λ _. ⌜ now (lines .exit) ≡ filled n state (now (lines .entry)) ⌝ }
@@ -287,7 +300,7 @@ fn fill(lines: &mut [LineState], n: usize, state: LineState)
     }
 }
 
-// Every event of a trace, on n devices.
+// Every event of a trace on n devices: its level is answered, then each device is given it.
 fn run_events(image: &mut [u8], trace: &[u8], answers: &mut [u8], lines: &mut [LineState], n: usize)
     requires { ⌜ (length (now trace) ≤ length (now answers)) × (n ≤ length (now lines)) ⌝ }
     ensures { λ _. ⌜ runState (now (image .exit)) (now (answers .exit)) (now (lines .exit)) ≡ events (now (trace .entry)) n (length (now (trace .entry))) (runState (now (image .entry)) (now (answers .entry)) (now (lines .entry))) ⌝ }
@@ -302,12 +315,12 @@ fn run_events(image: &mut [u8], trace: &[u8], answers: &mut [u8], lines: &mut [L
     }
 }
 
-// The run, of any input: what is refused changes nothing.
+// The run. What is refused changes nothing; else every device starts waiting, whatever the line states held.
 pub fn run(image: &mut [u8], trace: &[u8], answers: &mut [u8], lines: &mut [LineState]) -> u32
     ensures { λ r. ⌜ outcome r (now (image .exit)) (now (answers .exit)) (now (lines .exit)) ≡ runOf (now (trace .entry)) (now (image .entry)) (now (answers .entry)) (now (lines .entry)) ⌝ }
 {
     let number = refusal(image, trace, answers.len(), lines.len());
-    if number == 0 {
+    if number == ACCEPTED {
         let n = served(image, lines.len());
         let waiting = LineState::waiting();
         fill(lines, n, waiting);

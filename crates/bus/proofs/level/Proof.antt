@@ -1,6 +1,6 @@
 -- `bus::level` meets its contract: a walk of its MIR, by hand, with a loop that reads each line state and asks `level_with` of it.
 -- Both slices are `&`. The lines are looked into once, before the loop, and shut once, after it. The image is held closed, and each call is passed a copy of it, at its own lifetime.
--- The level after i devices is `levelWith .. i` (`specs/Loops.antt`), by recursion on i, so the invariant holds at i + 1 by computation.
+-- The level after i devices is `levelWith .. i` (`Levels.antt`), by recursion on i, so the invariant holds at i + 1 by computation; after all it is `levelOn` (`level-loop`).
 -- All that it knows of `served`, `master_level` and `level_with` is that each meets its contract.
 -- Assumes nothing.
 use mathlib.Core.Path.{_≡_, refl, sym, ap, subst, _∙_}
@@ -54,8 +54,9 @@ use Rattle.device.specs.declared.LineState.{LineState}
 use Rattle.device.specs.Device.{waitingState}
 use Rattle.device.proofs.LineState as T
 use Rattle.device.proofs.LineState.Laws as T′
-use Rattle.bus.specs.Loops.{lineAt, servedOf, levelWith, levelOn}
+use Rattle.bus.specs.Loops.{servedOf, lineAt}
 use Rattle.bus.proofs.Laws.{served-lines}
+use Rattle.bus.proofs.Levels.{levelWith, level-loop}
 use Rattle.bus.proofs.Lines.{width, holds, fails, one-more, fits-at, fits-next, R, mach, valsR, tellsR, copyR, typed}
 use Rattle.bus.proofs.served as served
 use Rattle.bus.proofs.served.Symbol as served-def
@@ -140,10 +141,9 @@ module _ {M : Type 1} (𝓤 : URA M) (H : Heap 𝓤) (A : Atoms 𝓤) (W : Given
   Out′ = ‵ (flft κ′ q′) ∷ ‵ Image ∷ ‵ (flft κ q) ∷ ‵ (fshr-bor κ′ Part) ∷ ‵ (fres γ′ (codedHoleys R .code (heres R ys))) ∷ []
 
   exits : ent 𝓤 (⋆ 𝓤 H A Out′) (Post (vbool (lv n)))
-  unfolding levelOn
   exits =
       qed W Out′ ∵
-      suffices ! _ (ends-at 𝓤 H A level.ended stayed (level.clauses 𝓤 H A mem run) W (((κ, (κ′, tt)), (q, (q′, tt)), tt, a, vals), tt) (vbool (lv n)) (lv n) (tt, (tt, (tt, tt))) (tt, (tt, (tt, tt)))) $ says ! refl $
+      suffices ! _ (ends-at 𝓤 H A level.ended stayed (level.clauses 𝓤 H A mem run) W (((κ, (κ′, tt)), (q, (q′, tt)), tt, a, vals), tt) (vbool (lv n)) (lv n) (tt, (tt, (tt, tt))) (tt, (tt, (tt, tt)))) $ says ! (level-loop im ys v) $
       nothing ! $ move ! (1 ∷ 0 ∷ []) $ join ! $ move ! (2 ∷ 0 ∷ []) $ join ! $ frame ! $
       -- [the image; the lines' borrow; res]: the last two, with the fact on the machine value, are what the lines own
       move ! (2 ∷ 1 ∷ []) $ fjoin ! $ pureI ! (at-slice R x′ (s′ ∷ [])) (tt, (tt, tt)) (refl, room) $ fjoin ! $
