@@ -19,7 +19,7 @@ use Rattle.device.specs.declared.LineState.{LineState}
 use Rattle.device.specs.Device.{waitingState}
 use Rattle.bus.specs.declared.Place.{Place}
 use Rattle.bus.specs.Bus.{Device, deviceOf, eventOf, levelOf, nextState, nextBody, nextDevice, busStepAt, busStep, Run, answerOf, withAnswer, runTrace}
-use Rattle.bus.specs.Run.{devicesFrom, waitingDevices, headerOf, bodiesOf, statesOf, outcome, leftBy, runAt, runOf}
+use Rattle.bus.specs.Run.{devicesFrom, waitingDevices, headerOf, bodiesOf, statesOf, outcome, leftBy, runAt, runOf, Outcome, Leaves}
 use Rattle.bus.specs.Refusal.{runRefusal}
 use Rattle.bus.specs.Loops.{placeOf, deviceAt, deviceIn, withBody, turnState, turnImage, devicesIn, levelOn, servedOf, lineAt, BusState, busState, turnAt, turns, filled, RunState, runState, eventAt, events}
 use Rattle.bus.proofs.Laws.{admitted}
@@ -391,3 +391,18 @@ pub run-refused : (trace image answers : List ℕ) (lines : List LineState) → 
     → outcome (runRefusal image trace (length answers) (length lines)) image answers lines ≡ runOf trace image answers lines
 unfolding runOf
 run-refused trace image answers lines t = refused-at (runRefusal image trace (length answers) (length lines)) trace image answers lines t
+
+-- what a run left, as one equation and as an equation for each thing
+pub run-leaves : (left : Outcome) (number : ℕ) (image answers : List ℕ) (lines : List LineState)
+    → outcome number image answers lines ≡ left → Leaves left number image answers lines
+run-leaves left number image answers lines e =
+    record {
+      number-is = ap (λ (o : Outcome). o .number) e;
+      image-is = ap (λ (o : Outcome). o .image) e;
+      answers-are = ap (λ (o : Outcome). o .answers) e;
+      lines-are = ap (λ (o : Outcome). o .lines) e;
+    }
+
+pub left-is : (left : Outcome) (number : ℕ) (image answers : List ℕ) (lines : List LineState)
+    → Leaves left number image answers lines → outcome number image answers lines ≡ left
+left-is left number image answers lines l = λ i. outcome (l .number-is i) (l .image-is i) (l .answers-are i) (l .lines-are i)

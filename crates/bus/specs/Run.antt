@@ -1,5 +1,6 @@
 -- Document 01, 'The trace and its levels' and 'Refusals in order': what a run returns and leaves, for every image, trace and room.
 use Prim.Native.Nat.{ℕ, zero, suc, _+_, _*_}
+use mathlib.Core.Path.{_≡_}
 use mathlib.Core.List.{List, [], _∷_, _++_, map}
 use lib.ListN.{length, take, drop, replicate}
 use Rattle.image.specs.Image.{countOf, kindAt, bodyAt}
@@ -37,6 +38,13 @@ pub record Outcome : Type 0 where
 
 abbrev pub outcome : ℕ → List ℕ → List ℕ → List LineState → Outcome
 outcome number image answers lines = record { number = number; image = image; answers = answers; lines = lines }
+
+-- what a run returned and left is this
+pub record Leaves (left : Outcome) (number : ℕ) (image answers : List ℕ) (lines : List LineState) : Type 0 where
+  pub number-is : number ≡ left .number
+  pub image-is : image ≡ left .image
+  pub answers-are : answers ≡ left .answers
+  pub lines-are : lines ≡ left .lines
 
 -- bytes and line states past those named stay as they were; what the line states held before is ignored
 unfoldable pub leftBy : Run → List ℕ → List ℕ → List ℕ → List LineState → Outcome

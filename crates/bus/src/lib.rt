@@ -13,7 +13,7 @@ ghost use Rattle.image.specs.Image.{countOf, kindAt};
 ghost use Rattle.image.specs.Refusal.{someBelow};
 ghost use Rattle.bus.specs.Bus.{deviceOf, eventOf, nextState, nextBody};
 ghost use Rattle.bus.specs.Refusal.{someByte, badTrace, isEprom, badPulse, noRoom, runRefusal};
-ghost use Rattle.bus.specs.Run.{outcome, runOf};
+ghost use Rattle.bus.specs.Run.{Leaves, runOf};
 ghost use Rattle.bus.specs.Loops.{placeOf, deviceAt, deviceIn, masterLevel, deviceLevel, turnState, turnImage, servedOf, levelOn, busState, turns, filled, runState, events};
 
 // An event on the line: a slot in which the master sends a bit, a reset, or a program pulse.
@@ -317,7 +317,7 @@ fn run_events(image: &mut [u8], trace: &[u8], answers: &mut [u8], lines: &mut [L
 
 // The run. What is refused changes nothing; else every device starts waiting, whatever the line states held.
 pub fn run(image: &mut [u8], trace: &[u8], answers: &mut [u8], lines: &mut [LineState]) -> u32
-    ensures { λ r. ⌜ outcome r (now (image .exit)) (now (answers .exit)) (now (lines .exit)) ≡ runOf (now (trace .entry)) (now (image .entry)) (now (answers .entry)) (now (lines .entry)) ⌝ }
+    ensures { λ r. ⌜ Leaves (runOf (now (trace .entry)) (now (image .entry)) (now (answers .entry)) (now (lines .entry))) r (now (image .exit)) (now (answers .exit)) (now (lines .exit)) ⌝ }
 {
     let number = refusal(image, trace, answers.len(), lines.len());
     if number == ACCEPTED {

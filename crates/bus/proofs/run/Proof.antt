@@ -56,7 +56,7 @@ use Rattle.bus.proofs.Again.{LentAgain, SharedAgain, lends-kept, back-k
 use Rattle.bus.proofs.Laws.{admitted, served-lines, filled-length, events-image-length, events-answers-length, events-lines-length}
 use Rattle.bus.proofs.Lines.{R, mach, tellsR, typed, spelled, unit-typed}
 use Rattle.bus.proofs.Parts.{then-of, rest-of}
-use Rattle.bus.proofs.Shown.{ends, run-shown, run-refused}
+use Rattle.bus.proofs.Shown.{ends, run-shown, run-refused, run-leaves}
 use Rattle.bus.proofs.refusal as refusal
 use Rattle.bus.proofs.refusal.Symbol as refusal-def
 use Rattle.bus.proofs.refusal.Symbol.{name as #bus·refusal}
@@ -196,7 +196,7 @@ module _ {M : Type 1} (𝓤 : URA M) (H : Heap 𝓤) (A : Atoms 𝓤) (W : Given
   exits im′ ans′ ls′ e-fits said len len₂ len₃ =
       qed W (Had im′ ans′ ls′ []) ∵
       suffices ! _ (ends-at 𝓤 H A run′.ended stayed (run′.clauses 𝓤 H A mem run) W (((κ, (κ₁, (κ₂, (κ₃, tt)))), (q, (q₁, (q₂, (q₃, tt)))), tt, a, vals), tt) (vint w32 e) e (im′, (tt, (ans′, (ls′, tt))))
-      (len, (tt, (len₂, (len₃, tt))))) $ says ! said $
+      (len, (tt, (len₂, (len₃, tt))))) $ says ! (run-leaves (runOf tr im ans ys) e im′ ans′ ls′ said) $
       nothing ! $ move ! (8 ∷ 0 ∷ []) $ join ! $ move ! (6 ∷ 0 ∷ []) $ join ! $ move ! (4 ∷ 0 ∷ []) $ join ! $ move ! (2 ∷ 0 ∷ []) $ join ! $ frame ! $
       nothing ! $ move ! (4 ∷ 0 ∷ []) $ fjoin ! $ move ! (3 ∷ 0 ∷ []) $ fjoin ! $ move ! (2 ∷ 0 ∷ []) $ fjoin ! $ move ! (1 ∷ 0 ∷ []) $ fjoin ! $ frame ! $
       owned ! u32 (Is u32) (uint-makes 𝓤 H A W w32) e (vint w32 e ∷ []) (refl, e-fits) $ done !

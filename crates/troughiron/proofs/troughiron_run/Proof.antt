@@ -52,9 +52,9 @@ use Rattle.device.specs.declared.LineState.{LineState}
 use Rattle.device.specs.Device.{waitingState}
 use Rattle.device.proofs.LineState as T
 use Rattle.device.proofs.LineState.Laws as T′
-use Rattle.bus.specs.Run.{outcome, runOf}
+use Rattle.bus.specs.Run.{Leaves, runOf}
 use Rattle.bus.proofs.Lines.{R, valsR, tellsR, copyR, typed}
-use Rattle.troughiron.specs.Host.{withoutLines, answered, hostRun}
+use Rattle.troughiron.specs.Host.{Sees, hostRun}
 use Rattle.device.proofs.LineState.waiting as waiting
 use Rattle.device.proofs.LineState.waiting.Symbol as waiting-def
 use Rattle.device.proofs.LineState.waiting.Symbol.{name as #device·waiting}
@@ -134,7 +134,7 @@ module _ {M : Type 1} (𝓤 : URA M) (H : Heap 𝓤) (A : Atoms 𝓤) (W : Given
   abbrev Trace : Fml
   Trace = ShrSlice (named 1) κ₁ u8 .own x₁ (s₁ ∷ [])
 
-  exits : (e : ℕ) (w : Val) (im′ ans′ : List ℕ) → answered e im′ ans′ ≡ hostRun tr im ans → length im′ ≡ length im → length ans′ ≡ length ans
+  exits : (e : ℕ) (w : Val) (im′ ans′ : List ℕ) → Sees (hostRun tr im ans) e im′ ans′ → length im′ ≡ length im → length ans′ ≡ length ans
       → ent 𝓤 (⋆ 𝓤 H A (‵ (finally u8 γ im′) ∷ ‵ (flft κ q) ∷ ‵ Trace ∷ ‵ (flft κ₁ q₁) ∷ ‵ (finally u8 γ₂ ans′) ∷ ‵ (flft κ₂ q₂) ∷ ‵ (u32 .own e (w ∷ [])) ∷ [])) (Post w)
   exits e w im′ ans′ said len len₂ =
       qed W (‵ (finally u8 γ im′) ∷ ‵ (flft κ q) ∷ ‵ Trace ∷ ‵ (flft κ₁ q₁) ∷ ‵ (finally u8 γ₂ ans′) ∷ ‵ (flft κ₂ q₂) ∷ ‵ (u32 .own e (w ∷ [])) ∷ []) ∵
@@ -199,8 +199,8 @@ module _ {M : Type 1} (𝓤 : URA M) (H : Heap 𝓤) (A : Atoms 𝓤) (W : Given
         move ! (5 ∷ []) $ use1 W (‵ Trace ⊛ ‵ Trace) (shr-slice-copy 𝓤 H A W (named 1) κ₁ u8 .twice x₁ (s₁ ∷ [])) $ split ! $ move ! (9 ∷ 4 ∷ []) $ join ! $ move ! (7 ∷ 0 ∷ []) $ join ! $ move ! (6 ∷ 0 ∷ []) $ join ! $ move ! (6 ∷ 3 ∷ []) $ join ! $ move ! (2 ∷ 0 ∷ []) $ join ! $ move ! (4 ∷ 0 ∷ []) $ join ! $ move ! (1 ∷ 0 ∷ []) $ use2 W (raw (Run 𝓤 H A at-mem run .pre (to-run l₅ α γ₃))) (goes-run l₅ α γ₃) $
         calls-at ! fm (Run 𝓤 H A at-mem run) known-run (to-run l₅ α γ₃) (and-then ! (load ! (from ! (stop !)) (look ! 11 refl)) (and-then ! (load ! (from ! (stop !)) (look ! 20 refl)) (and-then ! (load ! (from ! (stop !)) (look ! 7 refl)) (and-then ! (load ! (from ! (stop !)) (look ! 3 refl)) (no-more !))))) (λ w′.
         use1 W (later (some (λ (e : ℕ). ((‵ (flft κ q) ⊛ ‵ (flft κ₁ q₁) ⊛ ‵ (flft κ₂ q₂) ⊛ ‵ (flft (α ∷ []) fullShare) ⊛ ‵ ftrue) ⊛ ‵ (u32 .own e (w′ ∷ []))) ⊛ raw (ensured 𝓤 H A bus-run.ended (bus-run.clauses 𝓤 H A at-mem run) (κ, (κ₁, (κ₂, (α ∷ [], tt)))) (x im, (x₁, (x₂ ans, (x₃ l₅ γ₃, tt)))) tt e)))) (id⊢ 𝓤 _) $ await ! tt $ pick ! (λ e.
-        split ! $ move ! (1 ∷ []) $ use1 W (some (λ (us : List ℕ × (Unit {0} × (List ℕ × (List LineState × Unit {0})))). ‵ (lasts bus-run.ended (κ, (κ₁, (κ₂, (α ∷ [], tt)))) (x im, (x₁, (x₂ ans, (x₃ l₅ γ₃, tt)))) us) ⊛ raw (fact 𝓤 (outcome e (us .0) (us .1 .1 .0) (us .1 .1 .1 .0) ≡ runOf tr im ans xs)))) (id⊢ 𝓤 _) $ pick ! (λ us.
-        split ! $ move ! (1 ∷ []) $ heard ! (outcome e (us .0) (us .1 .1 .0) (us .1 .1 .1 .0) ≡ runOf tr im ans xs) (λ said.
+        split ! $ move ! (1 ∷ []) $ use1 W (some (λ (us : List ℕ × (Unit {0} × (List ℕ × (List LineState × Unit {0})))). ‵ (lasts bus-run.ended (κ, (κ₁, (κ₂, (α ∷ [], tt)))) (x im, (x₁, (x₂ ans, (x₃ l₅ γ₃, tt)))) us) ⊛ raw (fact 𝓤 (Leaves (runOf tr im ans xs) e (us .0) (us .1 .1 .0) (us .1 .1 .1 .0))))) (id⊢ 𝓤 _) $ pick ! (λ us.
+        split ! $ move ! (1 ∷ []) $ heard ! (Leaves (runOf tr im ans xs) e (us .0) (us .1 .1 .0) (us .1 .1 .1 .0)) (λ said.
         fsplit ! $ fsplit ! $ move ! (1 ∷ []) $ feqL ! (λ len. move ! (1 ∷ []) $ fsplit ! $ move ! (1 ∷ []) $ fsplit ! $ fsplit ! $ move ! (1 ∷ []) $ feqL ! (λ len₂. move ! (1 ∷ []) $ fsplit ! $ fsplit ! $ move ! (1 ∷ []) $ feqL ! (λ len₃.
         move ! (5 ∷ []) $ split ! $ move ! (1 ∷ []) $ peeks ! u32 (Is u32) (shows 𝓤 H A u32) e (w′ ∷ []) (λ is′. land ! (from ! (stop !)) (init ! 30 refl (uint-lawful 𝓤 H A W w32 .typed e _ is′ .0)) $
         -- the lifetime is ended, and the elements come back and are the array again
@@ -212,7 +212,7 @@ module _ {M : Type 1} (𝓤 : URA M) (H : Heap 𝓤) (A : Atoms 𝓤) (W : Given
         use1 W (‵ (fat fullShare (tyArray T′.mir 64) l₅ 0 (only (array-vals valsR (us .1 .1 .1 .0))))) (W .laws .raw-at fullShare (tyArray T′.mir 64) l₅ 0 (only (array-vals valsR (us .1 .1 .1 .0)))) $
         returns ! (look ! 32 refl) $ forget ! 32 refl $ forget ! 30 refl $ forget ! 28 refl $ forget ! 26 refl $ forget ! 24 refl $ forget ! 0 refl $ forget ! 21 refl $ forget ! 19 refl $ forget ! 17 refl $ forget ! 15 refl $ forget ! 13 refl $ forget ! 11 refl $
         move ! (32 ∷ 33 ∷ []) $ free1 ! $ move ! (30 ∷ 31 ∷ []) $ free1 ! $ move ! (28 ∷ 29 ∷ []) $ free1 ! $ move ! (26 ∷ 27 ∷ []) $ free1 ! $ move ! (24 ∷ 25 ∷ []) $ free1 ! $ move ! (0 ∷ 23 ∷ []) $ free1 ! $ move ! (20 ∷ 21 ∷ []) $ free1 ! $ move ! (18 ∷ 19 ∷ []) $ free1 ! $ move ! (16 ∷ 17 ∷ []) $ free1 ! $ move ! (14 ∷ 15 ∷ []) $ free1 ! $ move ! (12 ∷ 13 ∷ []) $ free1 ! $ move ! (10 ∷ 11 ∷ []) $ free1 ! $ free0 ! $
-        keep ! (8 ∷ 3 ∷ 9 ∷ 2 ∷ 6 ∷ 1 ∷ 4 ∷ []) $ by ! (exits e w′ (us .0) (us .1 .1 .0) (ap withoutLines said) len len₂)))))))))))))))))))))))))))))))
+        keep ! (8 ∷ 3 ∷ 9 ∷ 2 ∷ 6 ∷ 1 ∷ 4 ∷ []) $ by ! (exits e w′ (us .0) (us .1 .1 .0) (record { number-is = said .number-is; image-is = said .image-is; answers-are = said .answers-are }) len len₂)))))))))))))))))))))))))))))))
 
 module _ {M : Type 1} (𝓤 : URA M) (H : Heap 𝓤) (A : Atoms 𝓤) (W : Given 𝓤 H A) (at-mem : Memory → SProp 𝓤) (run : Routine → Fun 𝓤) (𝓣 : Tables 𝓤 H)
     (known-waiting : Triple 𝓤 (𝓣 .C #device·waiting) (Waiting 𝓤 H A at-mem run)) (known-run : Triple 𝓤 (𝓣 .C #bus·run) (Run 𝓤 H A at-mem run)) where
