@@ -1,0 +1,12 @@
+pub mod Codes
+pub mod Passes
+pub mod Bits
+pub mod Devices
+pub mod Steps
+pub mod Driven
+pub mod Walk
+pub mod Whole
+pub mod Trace
+pub mod Image
+pub mod Demand
+pub mod Going

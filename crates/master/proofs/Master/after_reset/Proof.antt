@@ -1,0 +1,37 @@
+use Rattle.master.specs.Master.{afterReset}
+use borrow.Author.Tests.{eq-eqb, ne-eqb}
+use borrow.Author.Needs.{needs}
+use Rattle.master.proofs.Master.after_reset.Statement.{statement}
+use Rattle.master.proofs.Master.after_reset.Tie as tie
+
+with-stage-requires : tie.Need-with-stage-requires
+with-stage-requires c κs = search needs
+
+returns : tie.Need-returns
+unfolding afterReset
+returns c = simp (c .with-stage .ensures, eq-eqb _ _ (c .before .if2 .taken), c .before .before .if1 .taken)
+
+with-stage-requires-2 : tie.Need-with-stage-requires-2
+with-stage-requires-2 c κs = search needs
+
+returns-2 : tie.Need-returns-2
+unfolding afterReset
+returns-2 c = simp (c .with-stage2 .ensures, ne-eqb _ _ (c .before .if2 .left), c .before .before .if1 .taken)
+
+with-stage-requires-3 : tie.Need-with-stage-requires-3
+with-stage-requires-3 c κs = search needs
+
+returns-3 : tie.Need-returns-3
+unfolding afterReset
+returns-3 c = simp (c .with-stage3 .ensures, c .before .if1 .left)
+
+pub after-reset-spec : {M : Type 1} → statement M
+after-reset-spec =
+    tie.close
+    (tie.spec
+    with-stage-requires
+    returns
+    with-stage-requires-2
+    returns-2
+    with-stage-requires-3
+    returns-3)

@@ -1,0 +1,63 @@
+use borrow.Author.Tests.{lt-ltb, le-ltb}
+use Rattle.master.specs.Drive.{roomRefused}
+use Rattle.master.proofs.Feeding.{drive-refused, drive-fed}
+use borrow.Author.Needs.{needs}
+use Rattle.master.proofs.drive.Statement.{statement}
+use Rattle.master.proofs.drive.Tie as tie
+
+trace-room-requires : tie.Need-trace-room-requires
+trace-room-requires c κs = search needs
+
+refused-requires : tie.Need-refused-requires
+refused-requires c κs = search needs
+
+returns : tie.Need-returns
+unfolding roomRefused
+returns c =
+    let short = rw (c .before .before .trace-room .ensures) at (c .before .if1 .taken) in
+    drive-refused _ _ _ _ (c .refused .ensures) (rw (lt-ltb _ _ short))
+
+code-room-requires : tie.Need-code-room-requires
+code-room-requires c κs = search needs
+
+refused-requires-2 : tie.Need-refused-requires-2
+refused-requires-2 c κs = search needs
+
+returns-2 : tie.Need-returns-2
+unfolding roomRefused
+returns-2 c =
+    let room = rw (c .before .before .before .before .trace-room .ensures) at (c .before .before .before .if1 .left) in
+    let short = rw (c .before .before .code-room .ensures) at (c .before .if2 .taken) in
+    drive-refused _ _ _ _ (c .refused2 .ensures) (rw (le-ltb _ _ room, lt-ltb _ _ short))
+
+feed-requires : tie.Need-feed-requires
+feed-requires c κs = search needs
+
+same-length : tie.Need-same-length
+same-length c = search needs
+
+same-length-2 : tie.Need-same-length-2
+same-length-2 c = search needs
+
+returns-3 : tie.Need-returns-3
+unfolding roomRefused
+returns-3 c =
+    let room-t = rw (c .before .before .before .before .before .before .before .before .before .before .trace-room .ensures) at (c .before .before .before .before .before .before .before .before .before .if1 .left) in
+    let room-c = rw (c .before .before .before .before .before .before .before .before .code-room .ensures) at (c .before .before .before .before .before .before .before .if2 .left) in
+    let f = c .before .before .before .before .feed .ensures in
+    drive-fed _ _ _ _ _ _ (rw (le-ltb _ _ room-t, le-ltb _ _ room-c)) room-t room-c (f .0) (f .1) (f .2)
+
+pub drive-spec : {M : Type 1} → statement M
+drive-spec =
+    tie.close
+    (tie.spec
+    trace-room-requires
+    refused-requires
+    returns
+    code-room-requires
+    refused-requires-2
+    returns-2
+    feed-requires
+    same-length
+    same-length-2
+    returns-3)

@@ -1,0 +1,73 @@
+use borrow.Author.Needs.{needs}
+use mathlib.Core.Path.{refl}
+use native.Mathlib.Omega.{arith}
+use lib.Seq.{sets}
+use lib.ListN.{length, drop}
+use Prim.Native.Nat.{_*_, _≤_, _-_, _+_}
+use borrow.Author.Needs.{needs}
+use native.Mathlib.Nat.{add-zero}
+use Rattle.master.proofs.Stores.{store-next, store-none}
+use mathlib.Core.Path.{sym, _∙_, _≡_}
+use Rattle.master.proofs.put_code.Statement.{statement}
+use Rattle.master.proofs.put_code.Tie as tie
+
+abbrev Inv-loop : tie.InvT-loop
+Inv-loop codes₀ place code at i₀ codes i = (i ≤ 8) × (length codes ≡ length codes₀) × (sets codes (at + i) (drop i code) ≡ sets codes₀ at code)
+
+abbrev μ-loop : tie.MeasureT-loop
+μ-loop codes₀ place code at i₀ codes i = 8 - i
+
+mul-at : tie.Need-mul-at Inv-loop μ-loop
+mul-at c = search needs
+
+loop-holds : tie.Need-loop-holds Inv-loop μ-loop
+loop-holds c = (omega arith, refl, rw add-zero)
+
+add-put-byte : tie.Need-add-put-byte Inv-loop μ-loop
+add-put-byte c = search needs
+
+array-read-put-byte : tie.Need-array-read-put-byte Inv-loop μ-loop
+array-read-put-byte c = search needs
+
+put-byte-requires : tie.Need-put-byte-requires Inv-loop μ-loop
+put-byte-requires c κs = search needs
+
+add-i : tie.Need-add-i Inv-loop μ-loop
+add-i c = search needs
+
+loop-less : tie.Need-loop-less Inv-loop μ-loop
+loop-less c = search needs
+
+loop-again : tie.Need-loop-again Inv-loop μ-loop
+loop-again c =
+    let l = c .before .before .before .before .before .loop in
+    let a = c .before .before .before .before .before .before .before .args in
+    let eight : length (a .t3) ≡ 8 = search needs in
+    (omega arith, omega arith, rw (c .before .before .put-byte .ensures) (store-next (l .codes) (a .t3) (8 * a .place) (l .i) (omega arith) ∙ l .inv .2))
+
+same-length : tie.Need-same-length Inv-loop μ-loop
+same-length c = search needs
+
+returns : tie.Need-returns Inv-loop μ-loop
+returns c =
+    let l = c .before .loop in
+    let a = c .before .before .before .args in
+    let eight : length (a .t3) ≡ 8 = search needs in
+    sym (store-none (l .codes) (a .t3) (8 * a .place + l .i) (l .i) (omega arith)) ∙ l .inv .2
+
+pub put-code-spec : {M : Type 1} → statement M
+put-code-spec =
+    tie.close
+    (tie.spec
+    Inv-loop
+    μ-loop
+    mul-at
+    loop-holds
+    add-put-byte
+    array-read-put-byte
+    put-byte-requires
+    add-i
+    loop-less
+    loop-again
+    same-length
+    returns)

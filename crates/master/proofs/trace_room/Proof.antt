@@ -1,0 +1,18 @@
+use Rattle.master.specs.Drive.{traceRoom}
+use borrow.Author.Needs.{needs}
+use Rattle.master.proofs.trace_room.Statement.{statement}
+use Rattle.master.proofs.trace_room.Tie as tie
+
+add-result : tie.Need-add-result
+add-result c = search needs
+
+returns : tie.Need-returns
+unfolding traceRoom
+returns c = search needs
+
+returns-2 : tie.Need-returns-2
+unfolding traceRoom
+returns-2 c = search needs
+
+pub trace-room-spec : {M : Type 1} → statement M
+trace-room-spec = tie.close (tie.spec add-result returns returns-2)
