@@ -1,12 +1,12 @@
-pub mod Codes
-pub mod Passes
-pub mod Bits
-pub mod Devices
-pub mod Steps
+mod Codes
+mod Passes
+mod Bits
+mod Devices
+mod Steps
 pub mod Driven
-pub mod Walk
-pub mod Whole
-pub mod Trace
-pub mod Image
+mod Walk
+mod Whole
+mod Trace
+mod Image
 pub mod Demand
 pub mod Going

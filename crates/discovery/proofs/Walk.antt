@@ -9,7 +9,6 @@ use lib.Dec.{eqb, ltb, leb·zero, leb·suc-zero, leb·suc-suc, eqb·suc-zero, eq
 use Rattle.bits.specs.Bit.{bitOf, bitAt, putBit, shiftIn}
 use Rattle.bits.specs.Crc.{registered}
 use Rattle.line.specs.declared.SearchSlot.the-variants.{Bit}
-use Rattle.line.specs.declared.SearchSlot.the-variants as slots
 use Rattle.rom.specs.Rom.{addressed, romCommand, afterCommand}
 use Rattle.device.specs.declared.LineState.{LineState}
 use Rattle.device.specs.Device.{stateOf, resetState}
@@ -79,11 +78,18 @@ apart false d o (found b (At f)) {h = h} e =
 apart false d true (found b None) {h = h} e = (refl, b, None, refl, cc, λ k q. let g : h ≡ At zero = cc in rw g (ap At (omega arith)))
 apart false d false (found b None) {h = h} e = (refl, b, None, refl, cc, λ k q. let g : h ≡ None = cc in rw g)
 
+-- at a bit of these codes: no device answers; the direction, where r is sent at 0,0; whether the direction d leaves a discrepancy open
+abbrev silent : List Code → Bool
+silent S = bits-level S && complements-level S
+
+abbrev sent : List Code → Bool → Bool
+sent S r = direction (bits-level S) (complements-level S) r
+
+abbrev opens : List Code → Bool → Bool
+opens S d = leaves-open (bits-level S) (complements-level S) d
+
 pass-is : (m : ℕ) (S : List Code) (D : List Bool) (r : Bool) → head-or-0 D ≡ r
-    → pass (suc m) S D
-    ≡ checked (bits-level S && complements-level S)
-    (put (direction (bits-level S) (complements-level S) r) (leaves-open (bits-level S) (complements-level S) (direction (bits-level S) (complements-level S) r))
-    (pass m (branch (direction (bits-level S) (complements-level S) r) S) (tail D)))
+    → pass (suc m) S D ≡ checked (silent S) (put (sent S r) (opens S (sent S r)) (pass m (branch (sent S r) S) (tail D)))
 pass-is m S D r e = rw e
 
 -- ---- the events
@@ -135,9 +141,9 @@ module _ (p : ℕ) (few : p < 64) (c : Code) (previous : List ℕ) (last : Discr
   -- one bit: two read slots and a direction
   bit : (k m : ℕ) (ms : List Member) (code : List ℕ) (opened : Discrepancy) (d : Bool) {n r : Master} {fs : List Device} {done trace codes : List ℕ}
       → k < 64 → Sized (map device ms)
-      → (bits-level (rests k (suc m) ms) && complements-level (rests k (suc m) ms)) ≡ false
-      → d ≡ direction (bits-level (rests k (suc m) ms)) (complements-level (rests k (suc m) ms)) (atDiscrepancy last previous k)
-      → after (masterOf (Direction k d) p (putBit code k d) (marked (leaves-open (bits-level (rests k (suc m) ms)) (complements-level (rests k (suc m) ms)) d) k opened) previous last) d ≡ n
+      → silent (rests k (suc m) ms) ≡ false
+      → d ≡ sent (rests k (suc m) ms) (atDiscrepancy last previous k)
+      → after (masterOf (Direction k d) p (putBit code k d) (marked (opens (rests k (suc m) ms) d) k opened) previous last) d ≡ n
       → codeCompleted p n ≡ done
       → Driven n (stands (nextBit k) (map (moved k d) ms)) trace codes r fs
       → Driven (masterOf (FirstRead k) p code opened previous last) (stands (searching k Bit) ms) (readSlot ∷ readSlot ∷ slot d ∷ trace) (done ++ codes) r fs
@@ -157,9 +163,9 @@ module _ (p : ℕ) (few : p < 64) (c : Code) (previous : List ℕ) (last : Discr
 
   -- the last bit completes the code
   rest-last : (k : ℕ) (ms : List Member) (code : List ℕ) (opened : Discrepancy) (x : Bool) (q h : Discrepancy) (d : Code) → k ≡ 63 → Sized (map device ms)
-      → (bits-level (rests k 1 ms) && complements-level (rests k 1 ms)) ≡ false
-      → x ≡ direction (bits-level (rests k 1 ms)) (complements-level (rests k 1 ms)) (atDiscrepancy last previous k)
-      → q ≡ marked (leaves-open (bits-level (rests k 1 ms)) (complements-level (rests k 1 ms)) x) k opened
+      → silent (rests k 1 ms) ≡ false
+      → x ≡ sent (rests k 1 ms) (atDiscrepancy last previous k)
+      → q ≡ marked (opens (rests k 1 ms) x) k opened
       → d ≡ x ∷ [] → q ≡ merged k h opened → registered (putBits code k d) ≡ true → Rest k ms code opened d h
   unfolding putBits
   rest-last k ms code opened x q h d e z nc xe qe de me r =
@@ -167,7 +173,7 @@ module _ (p : ℕ) (few : p < 64) (c : Code) (previous : List ℕ) (last : Discr
       let same : nextBit k ≡ stateOf addressed = ap nextBit e ∙ last-bit in
       let ns = map (moved k x) ms in
       let end = masterOf (afterPass q (p + 1)) (p + 1) noBits None (putBit code k x) q in
-      let step : after (masterOf (Direction k x) p (putBit code k x) (marked (leaves-open (bits-level (rests k 1 ms)) (complements-level (rests k 1 ms)) x) k opened) previous last) x ≡ end =
+      let step : after (masterOf (Direction k x) p (putBit code k x) (marked (opens (rests k 1 ms) x) k opened) previous last) x ≡ end =
       rw (← qe) (completes p (putBit code k x) q previous last few k (omega arith) x x e good) in
       let go : Driven end (stands (nextBit k) ns) [] [] end (stands (stateOf addressed) ns) = rw same here in
       let whole = bit k 0 ms code opened x (omega arith) z nc xe step (one-completed p _ _ _ _ _) go in
@@ -179,14 +185,14 @@ module _ (p : ℕ) (few : p < 64) (c : Code) (previous : List ℕ) (last : Discr
 
   -- a bit, and those after it
   rest-more : (k m : ℕ) (ms : List Member) (code : List ℕ) (opened : Discrepancy) (x : Bool) (q h i : Discrepancy) (b d : Code) → k < 63 → Sized (map device ms)
-      → (bits-level (rests k (suc m) ms) && complements-level (rests k (suc m) ms)) ≡ false
-      → x ≡ direction (bits-level (rests k (suc m) ms)) (complements-level (rests k (suc m) ms)) (atDiscrepancy last previous k)
-      → q ≡ marked (leaves-open (bits-level (rests k (suc m) ms)) (complements-level (rests k (suc m) ms)) x) k opened
+      → silent (rests k (suc m) ms) ≡ false
+      → x ≡ sent (rests k (suc m) ms) (atDiscrepancy last previous k)
+      → q ≡ marked (opens (rests k (suc m) ms) x) k opened
       → d ≡ x ∷ b → merged (suc k) i q ≡ merged k h opened
       → Rest (suc k) (map (moved k x) ms) (putBit code k x) q b i → Rest k ms code opened d h
   unfolding putBits
   rest-more k m ms code opened x q h i b d e z nc xe qe de me r =
-      let step : after (masterOf (Direction k x) p (putBit code k x) (marked (leaves-open (bits-level (rests k (suc m) ms)) (complements-level (rests k (suc m) ms)) x) k opened) previous last) x ≡ masterOf (FirstRead (suc k)) p (putBit code k x) q previous last =
+      let step : after (masterOf (Direction k x) p (putBit code k x) (marked (opens (rests k (suc m) ms) x) k opened) previous last) x ≡ masterOf (FirstRead (suc k)) p (putBit code k x) q previous last =
       rw (← qe) (direction-step p (putBit code k x) q previous last few k (omega arith) x x e) in
       rw (de, ← me) (
         r .0,
@@ -194,21 +200,18 @@ module _ (p : ℕ) (few : p < 64) (c : Code) (previous : List ℕ) (last : Discr
         r .2 ∙ moved-devices k x ms,
       )
 
-  -- a bit taken apart, with the levels that the devices give and what the master sends at 0,0
+  -- a bit taken apart, with what the master sends
   abbrev sentAt : List Code → ℕ → Bool
-  sentAt S k = direction (bits-level S) (complements-level S) (atDiscrepancy last previous k)
-
-  abbrev openAt : List Code → ℕ → Bool
-  openAt S k = leaves-open (bits-level S) (complements-level S) (sentAt S k)
+  sentAt S k = sent S (atDiscrepancy last previous k)
 
   bit-apart : (m k : ℕ) (S : List Code) {d : Code} {h : Discrepancy} → k < 64 → pass (suc m) S (tails k (directions-of c last)) ≡ found d h
-      → ((bits-level S && complements-level S) ≡ false)
+      → (silent S ≡ false)
       × (b : Code) × (i : Discrepancy)
       × (pass m (branch (sentAt S k) S) (tails (suc k) (directions-of c last)) ≡ found b i)
       × (d ≡ sentAt S k ∷ b)
-      × ((n : ℕ) (q : Discrepancy) → merged (suc n) i (marked (openAt S k) n q) ≡ merged n h q)
+      × ((n : ℕ) (q : Discrepancy) → merged (suc n) i (marked (opens S (sentAt S k)) n q) ≡ merged n h q)
   bit-apart m k S low f =
-      apart (bits-level S && complements-level S) (sentAt S k) (openAt S k) (pass m (branch (sentAt S k) S) (tails (suc k) (directions-of c last)))
+      apart (silent S) (sentAt S k) (opens S (sentAt S k)) (pass m (branch (sentAt S k) S) (tails (suc k) (directions-of c last)))
       (sym (pass-is m S (tails k (directions-of c last)) (atDiscrepancy last previous k) (rule c last previous k known low)) ∙ f)
 
   bits : (m k : ℕ) (ms : List Member) (code : List ℕ) (opened : Discrepancy) {d : Code} {h : Discrepancy} → k + suc m ≡ 64 → Sized (map device ms)
@@ -220,15 +223,15 @@ module _ (p : ℕ) (few : p < 64) (c : Code) (previous : List ℕ) (last : Discr
       let x = sentAt S k in
       let none : u .1 ≡ [] = let g = u .3 in cc in
       let closed : None ≡ u .2 = let g = u .3 in cc in
-      rest-last k ms code opened x (marked (openAt S k) k opened) h d (omega arith) z (u .0) refl refl (u .4 ∙ ap (λ (b : Code). x ∷ b) none)
-      (ap (λ (i : Discrepancy). merged (suc k) i (marked (openAt S k) k opened)) closed ∙ u .5 k opened) r
+      rest-last k ms code opened x (marked (opens S x) k opened) h d (omega arith) z (u .0) refl refl (u .4 ∙ ap (λ (b : Code). x ∷ b) none)
+      (ap (λ (i : Discrepancy). merged (suc k) i (marked (opens S x) k opened)) closed ∙ u .5 k opened) r
   bits (suc m) k ms code opened {d} {h} e z f r =
       let S = rests k (suc (suc m)) ms in
       let u = bit-apart (suc m) k S (omega arith) f in
       let x = sentAt S k in
       let good : registered (putBits (putBit code k x) (suc k) (u .1)) ≡ true = ap (λ (y : Code). registered (putBits code k y)) (sym (u .4)) ∙ r in
-      rest-more k (suc m) ms code opened x (marked (openAt S k) k opened) h (u .2) (u .1) d (omega arith) z (u .0) refl refl (u .4) (u .5 k opened)
-      (bits m (suc k) (map (moved k x) ms) (putBit code k x) (marked (openAt S k) k opened) (omega arith) (rw (moved-devices k x ms) z)
+      rest-more k (suc m) ms code opened x (marked (opens S x) k opened) h (u .2) (u .1) d (omega arith) z (u .0) refl refl (u .4) (u .5 k opened)
+      (bits m (suc k) (map (moved k x) ms) (putBit code k x) (marked (opens S x) k opened) (omega arith) (rw (moved-devices k x ms) z)
       (ap (λ (T : List Code). pass (suc m) T (tails (suc k) (directions-of c last))) (moved-rests k (suc m) x ms) ∙ u .3) good)
 
   -- ---- reset and command
