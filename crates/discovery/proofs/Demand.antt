@@ -242,6 +242,7 @@ claim image {trace} {codes} ok w d =
       again = driven-events 0 (d .driven) (d .ended);
       again-ends = ap says (driven-last (d .driven)) ∙ d .ended;
       again-codes = driven-codes (d .driven);
+      again-written = driven-codes (d .driven) ∙ w .written ∙ ap passCodes (sym (driven-events 0 (d .driven) (d .ended)));
     })
 
 -- the search of an accepted image

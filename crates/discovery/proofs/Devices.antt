@@ -119,13 +119,17 @@ module _ (k m : ℕ) (low : k < 64) where
   bits-low : (ms : List Member) → Sized (map device ms) → not (someLow (stands (searching k Bit) ms)) ≡ bits-level (rests k (suc m) ms)
   unfolding someLow pullsLow
   bits-low [] z = refl
-  bits-low (active d ∷ ms) z = rw (search-sends-bit k (d .kind) (d .body) (z .0) low) (not-or (bitAt (d .body) k) (someLow (stands (searching k Bit) ms)) (bits-level (rests k (suc m) ms)) (bits-low ms (z .1)))
+  bits-low (active d ∷ ms) z =
+      rw (search-sends-bit k (d .kind) (d .body) (z .0) low)
+      (not-or (bitAt (d .body) k) (someLow (stands (searching k Bit) ms)) (bits-level (rests k (suc m) ms)) (bits-low ms (z .1)))
   bits-low (inactive d ∷ ms) z = rw (waiting-sends d (z .0)) (bits-low ms (z .1))
 
   complements-low : (ms : List Member) → Sized (map device ms) → not (someLow (stands (searching k Complement) ms)) ≡ complements-level (rests k (suc m) ms)
   unfolding someLow pullsLow
   complements-low [] z = refl
-  complements-low (active d ∷ ms) z = rw (search-sends-complement k (d .kind) (d .body) (z .0) low) (not-or (not (bitAt (d .body) k)) (someLow (stands (searching k Complement) ms)) (complements-level (rests k (suc m) ms)) (complements-low ms (z .1)))
+  complements-low (active d ∷ ms) z =
+      rw (search-sends-complement k (d .kind) (d .body) (z .0) low)
+      (not-or (not (bitAt (d .body) k)) (someLow (stands (searching k Complement) ms)) (complements-level (rests k (suc m) ms)) (complements-low ms (z .1)))
   complements-low (inactive d ∷ ms) z = rw (waiting-sends d (z .0)) (complements-low ms (z .1))
 
   pub bits-read : (ms : List Member) → Sized (map device ms) → levelOf (Slot true) (stands (searching k Bit) ms) ≡ bits-level (rests k (suc m) ms)

@@ -1,18 +1,22 @@
 -- A search that goes on: what is written so far, and a drive that gives the rest. The bodies are the image's throughout, so that a search
 -- need only read it. For the loop of a search. Assumes nothing.
-use Prim.Native.Nat.{ℕ, suc, _<_}
+use Prim.Native.Nat.{ℕ, suc, _+_, _-_, _<_, _≤_}
 use mathlib.Core.Path.{_≡_, refl, sym, ap, _∙_, subst}
 use mathlib.Core.Bool.{Bool}
 use mathlib.Core.List.{List, [], _∷_, _++_, map, append-nil, append-assoc}
 use native.Mathlib.Omega.{arith}
-use lib.ListN.{length, replicate, length-append, length-map, length-replicate}
-use Rattle.image.specs.Image.{countOf, kindAt, bodyAt}
+use lib.ListN.{length, take, replicate, length-append, length-map, length-replicate, length-take}
+use borrow.Author.Tests.{lt-ltb, le-leb}
+use Rattle.kind.specs.Kind.{bodySize}
+use Rattle.image.specs.Image.{countOf, offsetAt, kindAt, bodyAt}
 use Rattle.image.specs.Refusal.{imageRefusal}
+use Rattle.image.proofs.Accepted.{Known, inside}
 use Rattle.device.specs.declared.LineState.{LineState}
 use Rattle.device.specs.Device.{waitingState}
 use Rattle.bus.specs.declared.Event.{Event}
 use Rattle.bus.specs.Bus.{Device, deviceOf, eventOf, levelOf, nextState, nextBody, nextDevice, answerOf}
 use Rattle.bus.specs.Run.{devicesFrom, waitingDevices}
+use Rattle.bus.specs.Loops.{placeOf, deviceAt, deviceIn, turnState, devicesIn, levelOn}
 use Rattle.master.specs.declared.Master.{Master}
 use Rattle.master.specs.Master.{event, end, says, after, nextOf}
 use Rattle.master.specs.Drive.{started, codeCompleted}
@@ -58,12 +62,12 @@ unfolding devicesFrom
 devices-size image i [] = refl
 devices-size image i (s ∷ lines) = ap suc (devices-size image (suc i) lines)
 
--- what an event makes of the line states
-abbrev pub levelOn : List ℕ → List LineState → ℕ → Bool
-levelOn image lines e = levelOf (eventOf e) (devicesFrom image 0 lines)
+-- the level of an event, and the line states after it
+abbrev pub levelIn : List ℕ → List LineState → ℕ → Bool
+levelIn image lines e = levelOf (eventOf e) (devicesFrom image 0 lines)
 
 abbrev pub linesAfter : List ℕ → List LineState → ℕ → List LineState
-linesAfter image lines e = map (nextState (eventOf e) (levelOn image lines e)) (devicesFrom image 0 lines)
+linesAfter image lines e = map (nextState (eventOf e) (levelIn image lines e)) (devicesFrom image 0 lines)
 
 module _ (image : List ℕ) (searched : Searched image (searchOf image)) {m : Master} {lines : List LineState} {trace codes : List ℕ} where
   -- at an end all is written, and there is no number
@@ -88,20 +92,47 @@ module _ (image : List ℕ) (searched : Searched image (searchOf image)) {m : Ma
 
   -- it is sent, the devices answer, and the master is stepped with their level
   pub going-on : (e : ℕ) → Going image m lines trace codes → says m ≡ event e
-      → Going image (nextOf m (answerOf (levelOn image lines e))) (linesAfter image lines e) (trace ++ e ∷ [])
-      (codes ++ codeCompleted (m .passes) (nextOf m (answerOf (levelOn image lines e))))
+      → Going image (nextOf m (answerOf (levelIn image lines e))) (linesAfter image lines e) (trace ++ e ∷ [])
+      (codes ++ codeCompleted (m .passes) (nextOf m (answerOf (levelIn image lines e))))
   going-on e g h =
       let ds = devicesFrom image 0 lines in
       let r = driven-goes e 0 (g .driven) (searched .ended) h in
-      let next : nextOf m (answerOf (levelOn image lines e)) ≡ after m (levelOn image lines e) = next-is m (levelOn image lines e) in
-      let same : bodies (map (nextDevice (eventOf e) (levelOn image lines e)) ds) ≡ bodies ds = rw (r .is-level) (r .same) in
-      let step : Driven (after m (levelOn image lines e)) (map (nextDevice (eventOf e) (levelOn image lines e)) ds) (r .events) (r .codes) (searchOf image .master) (searchOf image .devices) = rw (r .is-level) (r .rest) in
+      let next : nextOf m (answerOf (levelIn image lines e)) ≡ after m (levelIn image lines e) = next-is m (levelIn image lines e) in
+      let same : bodies (map (nextDevice (eventOf e) (levelIn image lines e)) ds) ≡ bodies ds = rw (r .is-level) (r .same) in
+      let step : Driven (after m (levelIn image lines e)) (map (nextDevice (eventOf e) (levelIn image lines e)) ds) (r .events) (r .codes) (searchOf image .master) (searchOf image .devices) = rw (r .is-level) (r .rest) in
       record {
         events = r .events;
         found = r .codes;
-        driven = rw next (subst (λ (es : List Device). Driven (after m (levelOn image lines e)) es (r .events) (r .codes) (searchOf image .master) (searchOf image .devices)) (lines-next image 0 lines (eventOf e) (levelOn image lines e) same) step);
+        driven = rw next (subst (λ (es : List Device). Driven (after m (levelIn image lines e)) es (r .events) (r .codes) (searchOf image .master) (searchOf image .devices))
+            (lines-next image 0 lines (eventOf e) (levelIn image lines e) same) step);
         sent = append-assoc trace (e ∷ []) (r .events) ∙ ap (λ (t : List ℕ). trace ++ t) (sym (r .trace-is)) ∙ g .sent;
-        written = rw next (append-assoc codes (codeCompleted (m .passes) (after m (levelOn image lines e))) (r .codes)
+        written = rw next (append-assoc codes (codeCompleted (m .passes) (after m (levelIn image lines e))) (r .codes)
             ∙ ap (λ (t : List ℕ). codes ++ t) (ap (λ (b : Bool). codeCompleted (m .passes) (after m b) ++ r .codes) (r .is-level) ∙ sym (r .codes-are)) ∙ g .written);
         each = simp length-map (devices-size image 0 lines ∙ g .each);
       }
+
+-- ---- the functions of the bus, on an accepted image
+
+module _ (image : List ℕ) (known : Known image) where
+  -- a device that the bus finds by its place is the image's
+  device-in : (i : ℕ) (state : LineState) → i < countOf image → deviceIn image i state ≡ deviceOf (kindAt image i) (bodyAt image i) state
+  unfolding deviceIn deviceAt placeOf
+  device-in i state h =
+      let size : offsetAt image i + bodySize (kindAt image i) - offsetAt image i ≡ bodySize (kindAt image i) = omega arith in
+      rw (lt-ltb i (countOf image) h, le-leb (offsetAt image i + bodySize (kindAt image i)) (length image) (inside image known i h)) (rw size)
+
+  -- so one device's turn is its part of `linesAfter`
+  pub turn-in : (i : ℕ) (state : LineState) (e : ℕ) (level : Bool) → i < countOf image
+      → turnState image i state e level ≡ nextState (eventOf e) level (deviceOf (kindAt image i) (bodyAt image i) state)
+  unfolding turnState
+  turn-in i state e level h = ap (nextState (eventOf e) level) (device-in i state h)
+
+  devices-in : (i : ℕ) (lines : List LineState) → i + length lines ≤ countOf image → devicesIn image i lines ≡ devicesFrom image i lines
+  unfolding devicesIn devicesFrom
+  devices-in i [] h = refl
+  devices-in i (state ∷ lines) h = let d = device-in i state (omega arith) in let t = devices-in (suc i) lines (omega arith) in cc
+
+  -- and the level of the bus is that of the first n line states
+  pub level-in : (lines : List LineState) (e : ℕ) → levelOn image lines e ≡ levelIn image (take (countOf image) lines) e
+  unfolding levelOn
+  level-in lines e = ap (levelOf (eventOf e)) (devices-in 0 (take (countOf image) lines) (simp length-take (omega arith)))

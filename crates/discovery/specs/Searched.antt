@@ -66,7 +66,8 @@ pub record Searched (image : List ℕ) (s : Search) : Type 0 where
   pub passes : passesIn (s .trace) ≡ countOf image
   pub resets : resetsIn (s .trace) ≡ resetsFor (countOf image)
   pub slots : slotsIn (s .trace) ≡ 200 * countOf image
-  -- a fresh master given the answers sends the trace again, then ends with no number, with the same codes
+  -- a fresh master given the answers sends the trace again, then ends with no number, with the same codes; they are those of its passes
   pub again : eventsFrom started (runOn image (s .trace) .answers) ≡ s .trace
   pub again-ends : says (lastFrom started (runOn image (s .trace) .answers)) ≡ end 0
   pub again-codes : codesFrom started (runOn image (s .trace) .answers) ≡ s .codes
+  pub again-written : codesFrom started (runOn image (s .trace) .answers) ≡ passCodes (eventsFrom started (runOn image (s .trace) .answers))
