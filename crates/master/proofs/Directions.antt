@@ -1,4 +1,4 @@
--- A pass's code is its directions: the bit that is sent is the code's bit from then on, and the others stay. Assumes nothing.
+-- A pass's code is its directions: the bit that is sent is the code's bit from then on, the others stay, and bytes stay bytes. Assumes nothing.
 use Prim.Native.Nat.{ℕ, zero, suc, _+_, _-_, _*_, _/_, _%_, _^_, _≤_, _<_}
 use mathlib.Core.Path.{_≡_, refl, sym, ap, _∙_}
 use mathlib.Core.Bool.{Bool, true, false, cond}
@@ -13,6 +13,7 @@ use borrow.Author.Tests.{eqb-true, eqb-false, eq-eqb, ne-eqb, lt-leb}
 use Rattle.master.specs.declared.Discrepancy.{Discrepancy}
 use Rattle.master.specs.declared.Master.{Master}
 use Rattle.master.specs.Master.{codeBits, sendDirection}
+use Rattle.bits.proofs.Laws.{clear-room}
 use Rattle.bits.specs.Bit.{bitOf, bitAt, byteOf, placeOf, atLevel, withBit, putBit}
 
 -- ---- a bit of a number
@@ -104,6 +105,20 @@ level-other b i j false n = choose (bitOf b i) refl
     choose true h = lowered-other b i j n h
     choose false h = refl
 
+-- it stays a byte
+level-fits : (b i : ℕ) (level : Bool) → b < 256 → i < 8 → atLevel b i level < 256
+unfolding atLevel bitOf
+level-fits b i true h low = choose (bitOf b i) refl
+  where
+    choose : (t : Bool) → bitOf b i ≡ t → cond t b (b + 2 ^ i) < 256
+    choose true e = h
+    choose false e = clear-room b h i low (eqb-false (b / 2 ^ i % 2) 1 e)
+level-fits b i false h low = choose (bitOf b i)
+  where
+    choose : (t : Bool) → cond t (b - 2 ^ i) b < 256
+    choose true = omega arith
+    choose false = h
+
 -- ---- a bit put into bytes
 
 put-is : (s : List ℕ) (i : ℕ) (level : Bool) → putBit s i level ≡ set s (byteOf i) (atLevel (getD s (byteOf i) 0) (placeOf i) level)
@@ -130,6 +145,16 @@ module _ (s : List ℕ) (i : ℕ) (level : Bool) where
           rw d
           (ap (λ (x : ℕ). bitOf x (placeOf j)) (getD-set-same s (byteOf i) v 0 (omega arith))
           ∙ level-other (getD s (byteOf i) 0) (placeOf i) (placeOf j) level (λ e. n (omega arith)))
+
+  pub put-fits : ((j : ℕ) → getD s j 0 < 256) → i < 8 * length s → (j : ℕ) → getD (putBit s i level) j 0 < 256
+  put-fits fits h j = rw (put-is s i level) (choose (ℕ-discrete j (byteOf i)))
+    where
+      v : ℕ
+      v = atLevel (getD s (byteOf i) 0) (placeOf i) level
+
+      choose : Dec (j ≡ byteOf i) → getD (set s (byteOf i) v) j 0 < 256
+      choose (no d) = rw (getD-set-other s (byteOf i) j v 0 d) (fits j)
+      choose (yes d) = rw (d, getD-set-same s (byteOf i) v 0 (omega arith)) (level-fits (getD s (byteOf i) 0) (placeOf i) level (fits (byteOf i)) (omega arith))
 
 -- ---- a pass
 
