@@ -1,14 +1,13 @@
 -- An accepted image stays accepted after a run: the same length, the same table of contents, the same codes. Assumes nothing.
 use Prim.Native.Nat.{ℕ, zero, suc, _+_, _*_, _<_, _≤_}
 use mathlib.Core.Path.{_≡_, refl, sym, ap, subst, _∙_}
-use mathlib.Core.Bool.{true}
 use mathlib.Core.List.{List, [], _∷_, _++_, append-nil}
 use native.Mathlib.Omega.{arith}
 use lib.ListN.{length, getD, take, drop, length-append, length-take}
 use lib.Seq.{length-take-le, take-append-le, take-at, drop-at, split-at}
 use Rattle.bits.specs.Crc.{registered}
 use Rattle.kind.specs.Kind.{bodySize, codeLength}
-use Rattle.image.specs.Image.{countOf, familyAt, offsetAt, kindAt, packedAt, codeAt}
+use Rattle.image.specs.Image.{countOf, packedAt, codeAt}
 use Rattle.image.specs.Refusal.{unknown, imageRefusal}
 use Rattle.image.proofs.Accepted.{Known, accepted-known, known-accepted, code-length}
 use Rattle.device.specs.declared.LineState.{LineState}
@@ -16,7 +15,7 @@ use Rattle.bus.specs.Bus.{Device, runTrace}
 use Rattle.bus.specs.Refusal.{runRefusal}
 use Rattle.bus.specs.Run.{waitingDevices, headerOf, bodiesOf, leftBy, runAt, runOf}
 use Rattle.bus.proofs.Runs.{run-same, same-length}
-use Rattle.bus.proofs.Shown.{Stand, Entered, stand-same, nobody, packed-bodies, imageOf, header-length, header-at, count-kept, family-kept, kind-kept, offset-kept, entered, start-is, image-split, waiting-all, waiting-stands}
+use Rattle.bus.proofs.Shown.{Stand, stand-same, nobody, packed-bodies, imageOf, header-length, header-at, count-kept, family-kept, kind-kept, offset-kept, entered, start-is, image-split, waiting-all, waiting-stands}
 
 -- what holds of an image after a run
 pub record Kept (image after : List ℕ) : Type 0 where

@@ -1,12 +1,12 @@
 -- Laws that the proofs of this crate cite. Assumes nothing.
-use Prim.Native.Nat.{ℕ, zero, suc, _+_, _-_, _*_, _<_, _≤_}
-use mathlib.Core.Path.{_≡_, refl, sym, ap, _∙_}
-use mathlib.Core.Bool.{Bool, true, false, cond, not, _&&_, _||_, or-true, true≢false}
+use Prim.Native.Nat.{ℕ, zero, suc, _+_, _-_, _<_, _≤_}
+use mathlib.Core.Path.{_≡_, refl, sym, subst, _∙_}
+use mathlib.Core.Bool.{Bool, true, false, cond, _&&_, _||_, or-true, true≢false}
 use mathlib.Core.List.{List, [], _∷_, _++_}
 use native.Mathlib.Omega.{arith}
 use native.Mathlib.Nat.{not-suc-le-zero, le-of-suc-le-suc}
 use native.Mathlib.Numerals.{add-one}
-use lib.ListN.{length, getD, set, take, drop, drop-of-length-le, length-set, length-append, length-drop}
+use lib.ListN.{length, getD, drop, drop-of-length-le, length-set, length-append, length-drop}
 use lib.Seq.{drop-cons, length-take-le}
 use lib.Dec.{ltb, leb, lit<}
 use borrow.Author.Tests.{leb-true, ltb-false, le-ltb}
@@ -18,7 +18,7 @@ use Rattle.device.specs.declared.LineState.{LineState}
 use Rattle.bus.specs.Refusal.{someByte, badTrace, badPulse, noRoom, runCauses, runRefusal}
 use Rattle.bus.specs.declared.Place.{Place}
 use Rattle.bus.specs.Bus.{eventOf, nextBody}
-use Rattle.bus.specs.Loops.{placeOf, deviceAt, deviceIn, withBody, turnImage, lineAt, servedOf, levelOn, BusState, busState, turnAt, turns, filled, RunState, eventAt, events}
+use Rattle.bus.specs.Loops.{placeOf, deviceAt, deviceIn, withBody, turnImage, lineAt, servedOf, BusState, turnAt, turns, filled, RunState, eventAt, events}
 use Rattle.bus.proofs.Runs.{next-length}
 
 -- ---- the place of a body
@@ -37,6 +37,9 @@ place-inside-at image i false b e = record { rising = omega arith; within = omeg
 pub place-inside : (image : List ℕ) (i : ℕ) → Inside (placeOf image i) (length image)
 unfolding placeOf
 place-inside image i = place-inside-at image i (ltb i (countOf image)) (leb (offsetAt image i + bodySize (kindAt image i)) (length image)) refl
+
+pub inside-of : (image : List ℕ) (i : ℕ) (place : Place) → place ≡ placeOf image i → Inside place (length image)
+inside-of image i place e = subst (λ (p : Place). Inside p (length image)) (sym e) (place-inside image i)
 
 -- ---- a test at some byte of a trace
 
@@ -141,7 +144,7 @@ not-refused image trace answers lines a =
 pub filled-length : (i : ℕ) (state : LineState) (lines : List LineState) → length (filled i state lines) ≡ length lines
 unfolding filled
 filled-length zero state lines = refl
-filled-length (suc i) state lines = length-set (filled i state lines) i state ∙ filled-length i state lines
+filled-length (suc i) state lines = simp (length-set, filled-length i state lines)
 
 with-body-length : (image : List ℕ) (place : Place) (body : List ℕ) → Inside place (length image) → length body ≡ place .end - place .start → length (withBody image place body) ≡ length image
 unfolding withBody
@@ -165,7 +168,7 @@ turns-image-length byte level (suc i) s =
 pub turns-lines-length : (byte : ℕ) (level : Bool) (i : ℕ) (s : BusState) → length (turns byte level i s .lines) ≡ length (s .lines)
 unfolding turns turnAt
 turns-lines-length byte level zero s = refl
-turns-lines-length byte level (suc i) s = length-set (turns byte level i s .lines) i _ ∙ turns-lines-length byte level i s
+turns-lines-length byte level (suc i) s = simp (length-set, turns-lines-length byte level i s)
 
 -- ---- how many devices have a line state
 
@@ -182,18 +185,14 @@ served-lines image lines = served-at lines (countOf image) (ltb lines (countOf i
 pub events-image-length : (trace : List ℕ) (n k : ℕ) (s : RunState) → length (events trace n k s .image) ≡ length (s .image)
 unfolding events eventAt
 events-image-length trace n zero s = refl
-events-image-length trace n (suc k) s =
-    let before = events trace n k s in
-    turns-image-length (getD trace k 0) (levelOn (before .image) (before .lines) (getD trace k 0)) n (busState (before .image) (before .lines)) ∙ events-image-length trace n k s
+events-image-length trace n (suc k) s = turns-image-length (getD trace k 0) _ n _ ∙ events-image-length trace n k s
 
 pub events-answers-length : (trace : List ℕ) (n k : ℕ) (s : RunState) → length (events trace n k s .answers) ≡ length (s .answers)
 unfolding events eventAt
 events-answers-length trace n zero s = refl
-events-answers-length trace n (suc k) s = length-set (events trace n k s .answers) k _ ∙ events-answers-length trace n k s
+events-answers-length trace n (suc k) s = simp (length-set, events-answers-length trace n k s)
 
 pub events-lines-length : (trace : List ℕ) (n k : ℕ) (s : RunState) → length (events trace n k s .lines) ≡ length (s .lines)
 unfolding events eventAt
 events-lines-length trace n zero s = refl
-events-lines-length trace n (suc k) s =
-    let before = events trace n k s in
-    turns-lines-length (getD trace k 0) (levelOn (before .image) (before .lines) (getD trace k 0)) n (busState (before .image) (before .lines)) ∙ events-lines-length trace n k s
+events-lines-length trace n (suc k) s = turns-lines-length (getD trace k 0) _ n _ ∙ events-lines-length trace n k s

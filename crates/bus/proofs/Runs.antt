@@ -3,7 +3,7 @@
 --     run-length       one answer per event
 --     Same, run-same   a run changes no device's kind, no body's length and no code
 use Prim.Native.Nat.{ℕ, zero, suc}
-use mathlib.Core.Path.{_≡_, refl, sym, ap, _∙_}
+use mathlib.Core.Path.{_≡_, refl, ap, _∙_}
 use mathlib.Core.Bool.{Bool}
 use mathlib.Core.List.{List, [], _∷_, _++_, map}
 use lib.ListN.{length, take, drop}
@@ -11,7 +11,7 @@ use Rattle.kind.specs.Kind.{codeLength}
 use Rattle.device.proofs.Laws.{write-length, reset-length, program-length, write-code, reset-code, program-code}
 use Rattle.bus.specs.declared.Event.{Event}
 use Rattle.bus.specs.declared.Event.the-variants.{Slot, Reset, Pulse}
-use Rattle.bus.specs.Bus.{Device, eventOf, nextBody, nextDevice, busStepAt, busStep, Run, answerOf, withAnswer, runTrace}
+use Rattle.bus.specs.Bus.{Device, eventOf, nextBody, nextDevice, busStepAt, busStep, Run, withAnswer, runTrace}
 
 -- ---- one trace after another
 

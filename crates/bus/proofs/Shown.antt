@@ -8,21 +8,22 @@ use native.Mathlib.Nat.{add-zero}
 use native.Mathlib.Numerals.{add-one}
 use lib.ListN.{length, getD, set, take, drop, replicate, length-append, length-map, length-replicate, take-append-drop, replicate-append-replicate, List·getD-append}
 use lib.Seq.{length-take-le, getD-take, take-at, drop-at, getD-at, set-at, drop-append-add, take-suc, drop-cons, append-snoc, take-length, drop-length, drop-drop}
-use lib.Dec.{T, ltb, leb, eqb}
+use lib.Dec.{T, eqb}
 use borrow.Author.Tests.{lt-ltb, le-ltb, le-leb}
 use Rattle.kind.specs.declared.Kind.{Kind}
 use Rattle.kind.specs.declared.Kind.the-variants.{Unknown}
 use Rattle.kind.specs.Kind.{kindOf, bodySize, codeLength}
 use Rattle.image.specs.Image.{countOf, familyAt, offsetAt, kindAt, packedAt, bodyAt, codeAt}
+use Rattle.image.specs.Refusal.{imageRefusal}
 use Rattle.image.proofs.Accepted.{Known, accepted-known, body-length, body-code}
 use Rattle.device.specs.declared.LineState.{LineState}
 use Rattle.device.specs.Device.{waitingState}
 use Rattle.bus.specs.declared.Place.{Place}
 use Rattle.bus.specs.Bus.{Device, deviceOf, eventOf, levelOf, nextState, nextBody, nextDevice, busStepAt, busStep, Run, answerOf, withAnswer, runTrace}
 use Rattle.bus.specs.Run.{devicesFrom, waitingDevices, headerOf, bodiesOf, statesOf, outcome, leftBy, runAt, runOf, Outcome, Leaves}
-use Rattle.bus.specs.Refusal.{runRefusal}
+use Rattle.bus.specs.Refusal.{someByte, badTrace, badPulse, runRefusal}
 use Rattle.bus.specs.Loops.{placeOf, deviceAt, deviceIn, withBody, turnState, turnImage, devicesIn, levelOn, servedOf, lineAt, BusState, busState, turnAt, turns, filled, RunState, runState, eventAt, events}
-use Rattle.bus.proofs.Laws.{admitted}
+use Rattle.bus.proofs.Laws.{admitted, not-refused}
 use Rattle.bus.proofs.Runs.{runAfter, run-append, run-length, run-same, AllSame, none, also, part-same, same-length}
 
 -- ---- devices that stand at the entries of an image from i on
@@ -406,3 +407,14 @@ run-leaves left number image answers lines e =
 pub left-is : (left : Outcome) (number : ℕ) (image answers : List ℕ) (lines : List LineState)
     → Leaves left number image answers lines → outcome number image answers lines ≡ left
 left-is left number image answers lines l = λ i. outcome (l .number-is i) (l .image-is i) (l .answers-are i) (l .lines-are i)
+
+-- the empty trace: no refusal, no answers, the image unchanged, the first n line states waiting
+pub empty-run : (image answers : List ℕ) (lines : List LineState) → imageRefusal image ≡ 0 → countOf image ≤ length lines
+    → runOf [] image answers lines ≡ outcome 0 image answers (replicate (countOf image) waitingState ++ drop (countOf image) lines)
+unfolding runOf runAt leftBy runTrace badTrace badPulse someByte
+empty-run image answers lines e room =
+    let known = accepted-known image e in
+    let zero′ = not-refused image [] (length answers) (length lines) (record { image-accepted = e; trace-good = refl; pulses-good = refl; answers-room = omega arith; lines-room = room }) in
+    ap (λ (m : ℕ). runAt m [] image answers lines) zero′
+    ∙ ap (λ (l : List ℕ). outcome 0 l answers (statesOf (waitingDevices image) ++ drop (countOf image) lines)) (waiting-image image known)
+    ∙ ap (λ (l : List LineState). outcome 0 image answers (l ++ drop (countOf image) lines)) (waiting-states image known)

@@ -1,6 +1,5 @@
 // What a C program calls, on numbers and byte slices.
 use device::LineState;
-ghost use mathlib.Core.Path.{_≡_};
 ghost use Rattle.troughiron.specs.Host.{Sees, hostRun};
 
 // The run, with 64 line states of its own: as many as an image has devices.

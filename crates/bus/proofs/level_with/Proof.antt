@@ -1,11 +1,9 @@
-use Rattle.bus.proofs.Laws.{place-inside}
-use Rattle.bus.specs.Loops.{placeOf, deviceAt, deviceIn, deviceLevel}
-use Rattle.bus.specs.Bus.{eventOf}
-use Rattle.bus.specs.declared.Place.{Place}
-use borrow.Author.Tests.{not-true, not-false}
-use mathlib.Core.Bool.{not}
-use mathlib.Core.Path.{_≡_, sym, ap, _∙_}
+-- `bus::level_with` meets its contract. The part that is lent lies in the image (`inside-of`).
+use native.Mathlib.Omega.{arith}
 use borrow.Author.Needs.{needs}
+use borrow.Author.Tests.{not-true, not-false}
+use Rattle.bus.specs.Loops.{deviceAt, deviceIn}
+use Rattle.bus.proofs.Laws.{inside-of}
 use Rattle.bus.proofs.level_with.Statement.{statement}
 use Rattle.bus.proofs.level_with.Tie as tie
 
@@ -16,13 +14,13 @@ place-of-requires : tie.Need-place-of-requires
 place-of-requires c κs = search needs
 
 sub-device-level : tie.Need-sub-device-level
-sub-device-level c = rw (c .place-of .ensures) (place-inside _ _ .rising)
+sub-device-level c = let inside = inside-of _ _ _ (c .place-of .ensures) in omega arith
 
 part-device-level-start : tie.Need-part-device-level-start
-part-device-level-start c = rw (c .place-of .ensures) (place-inside _ _ .rising)
+part-device-level-start c = let inside = inside-of _ _ _ (c .place-of .ensures) in omega arith
 
 part-device-level-end : tie.Need-part-device-level-end
-part-device-level-end c = rw (c .place-of .ensures) (place-inside _ _ .within)
+part-device-level-end c = let inside = inside-of _ _ _ (c .place-of .ensures) in omega arith
 
 device-level-requires : tie.Need-device-level-requires
 device-level-requires c κs = search needs

@@ -2,10 +2,10 @@ use mathlib.Core.Bool.{and-false}
 use Prim.Native.Nat.{_<_}
 use Rattle.image.specs.declared.Entry.{Entry}
 use Rattle.kind.specs.Kind.{bodySize}
-use lib.ListN.{length, getD}
-use Prim.Native.Nat.{ℕ, _+_, _*_, _≤_}
+use lib.ListN.{length}
+use Prim.Native.Nat.{_+_, _*_, _≤_}
 use borrow.Author.Tests.{lt-ltb, le-ltb, le-leb, lt-leb}
-use mathlib.Core.Path.{_≡_, sym, ap, _∙_}
+use mathlib.Core.Path.{_≡_, ap, _∙_}
 use native.Mathlib.Omega.{arith}
 use Rattle.bus.specs.Loops.{placeOf}
 use Rattle.image.specs.Image.{entryOf, familyAt, offsetAt, kindAt, countOf}

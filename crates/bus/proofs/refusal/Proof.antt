@@ -1,7 +1,7 @@
 use Rattle.bus.proofs.Laws.{first-some, run-causes}
 use Rattle.bus.specs.Refusal.{runCauses, runRefusal}
-use Rattle.image.specs.Refusal.{firstOf, imageRefusal}
-use mathlib.Core.Path.{_≡_, sym, _∙_}
+use Rattle.image.specs.Refusal.{imageRefusal}
+use mathlib.Core.Path.{sym, _∙_}
 use borrow.Author.Needs.{needs}
 use Rattle.bus.proofs.refusal.Statement.{statement}
 use Rattle.bus.proofs.refusal.Tie as tie

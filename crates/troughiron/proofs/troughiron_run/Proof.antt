@@ -2,7 +2,7 @@
 -- The image and the answers are not used after the call, so they go to it at their own lifetimes and names, and what the call says of their last lists is what this function says (`gave-slice`). Of the trace a copy is passed.
 -- All that it knows of `waiting` and of `bus::run` is that each meets its contract.
 -- Assumes nothing.
-use mathlib.Core.Path.{_≡_, refl, sym, ap, subst, _∙_}
+use mathlib.Core.Path.{_≡_, refl, sym, subst, _∙_}
 use Prim.Native.Nat.{ℕ}
 use mathlib.Core.List.{[], _∷_, List}
 use lib.ListN.{length, replicate}
