@@ -1,0 +1,88 @@
+/*
+ * A 1-Wire bus with up to 64 devices (DS1992, DS1993, DS1982), simulated slot
+ * by slot, and a master that searches it.
+ *
+ * Nothing here allocates or keeps state between calls.  Buffers that belong to
+ * one call must not overlap.  A pointer whose length is 0 is not used.
+ */
+#ifndef SECOND_H
+#define SECOND_H
+
+#include <stddef.h>
+#include <stdint.h>
+
+/*
+ * Runs a trace on the devices of an image.
+ *
+ * A trace has one byte per event: 0 write-zero slot, 1 write-one or read slot,
+ * 2 reset, 3 program pulse.  The level of event i goes to answers[i]; answers
+ * past trace_len stay as they were.  The image takes up what the devices store.
+ *
+ * Returns 0 when answered, or the lowest refusal that applies, 1 to 7, with
+ * nothing changed:
+ *   1  image too short for its table, over 64 devices, edition not 1, a
+ *      nonzero second entry byte, or an unknown family
+ *   2  an offset or the image length is not the packed layout's
+ *   3  a code with a wrong CRC, or not of its entry's family
+ *   4  two equal codes
+ *   5  over 32768 events, or an event byte over 3
+ *   6  a program pulse with a device on the bus that is not a DS1982
+ *   7  fewer answers than events
+ */
+uint32_t second_run(uint8_t *image, size_t image_len,
+                    const uint8_t *trace, size_t trace_len,
+                    uint8_t *answers, size_t answers_len);
+
+/*
+ * Searches the n devices of an image: a fresh master is stepped against the
+ * levels of the bus.
+ *
+ * Writes 8n bytes of codes in the order found, the trace sent (201n events, or
+ * one reset when n is 0), and the passes, resets and slots of that trace.
+ *
+ * Returns 0, or a refusal with nothing changed: 1 to 4 as above, 7 when there
+ * is no room for 8n bytes of codes or for the trace.
+ */
+uint32_t second_search(const uint8_t *image, size_t image_len,
+                       uint8_t *codes, size_t codes_len,
+                       uint8_t *trace, size_t trace_len,
+                       uint64_t *passes, uint64_t *resets, uint64_t *slots);
+
+/* 1 for 8 bytes whose CRC, taken over all of them, is zero; else 0. */
+uint32_t second_registration_check(const uint8_t *code, size_t code_len);
+
+/* How far a searching master came with the levels it was fed. */
+struct second_fed {
+    int ended;       /* 1 when the master ended, 0 when the levels ran out */
+    uint32_t number; /* when ended: 0, or 8, 9, 10; otherwise 0 */
+    size_t events;   /* events sent */
+    size_t codes;    /* codes completed, 8 bytes each */
+};
+
+/*
+ * Steps a fresh master with recorded levels, nonzero counting as 1.  Its first
+ * step gives the reset; each level then answers the event just sent.  Stops
+ * when the master ends or the levels are used up.
+ *
+ * trace needs room for levels_len + 1 events, and never for more than 12864;
+ * codes needs room for 512 bytes.  What is past events and codes stays as it
+ * was.
+ */
+struct second_fed second_feed(const uint8_t *levels, size_t levels_len,
+                              uint8_t *trace, uint8_t *codes);
+
+/* A part of one of a DS1982's fields. */
+struct second_view {
+    int field; /* 0 data, 1 status, -1 empty */
+    size_t start, length;
+};
+
+/*
+ * The bytes a DS1982 read command still has to send from an address, which is
+ * cut to the field: F0h and C3h name the data, AAh the status.  Empty for any
+ * other command and for fields that are not of 128 and 8 bytes.
+ */
+struct second_view second_remaining(uint8_t command, uint16_t address,
+                                    size_t data_len, size_t status_len);
+
+#endif
