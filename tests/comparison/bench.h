@@ -1,0 +1,84 @@
+/* Images of benches: how they are laid out, filled, and named part by part. */
+#ifndef BENCH_H
+#define BENCH_H
+
+#include "dice.h"
+
+#include <stddef.h>
+#include <stdint.h>
+
+enum kind { DS1992, DS1993, DS1982, KINDS };
+
+enum {
+    MOST_DEVICES = 64,
+    MOST_ENTRIES = 255, /* what the count can say, accepted or not */
+    BENCH_ROOM = 40960
+};
+
+/* Where things are in an image. */
+enum {
+    COUNT = 0,
+    EDITION = 1,
+    TABLE = 2,
+    ENTRY_BYTES = 4, /* family, zero, offset */
+    CODE_BYTES = 8,
+    CODE_BITS = 64,
+    PAGE_BYTES = 32,
+    /* in the body of a DS1992 or DS1993 */
+    TA1 = CODE_BYTES,
+    TA2 = TA1 + 1,
+    ES = TA2 + 1,
+    SCRATCHPAD = ES + 1,
+    MEMORY = SCRATCHPAD + PAGE_BYTES,
+    /* in the body of a DS1982 */
+    STATUS = CODE_BYTES,
+    STATUS_BYTES = 8,
+    DATA = STATUS + STATUS_BYTES,
+    DATA_BYTES = 128
+};
+
+/*
+ * An image and what it was laid out as.  Damage changes the bytes and the
+ * length, and nothing else here.
+ */
+struct bench {
+    size_t count;
+    enum kind kinds[MOST_ENTRIES];
+    size_t bodies[MOST_ENTRIES]; /* offsets */
+    size_t length;
+    uint8_t bytes[BENCH_ROOM];
+};
+
+const char *kind_name(enum kind kind);
+uint8_t kind_family(enum kind kind);
+size_t kind_body_bytes(enum kind kind);
+size_t kind_memory_bytes(enum kind kind); /* 128 of data for a DS1982 */
+
+/* Shifts bytes into the CRC of a code, bit by bit. */
+uint8_t crc_of(const uint8_t *bytes, size_t count);
+
+/* Writes a valid code. */
+void code_write(uint8_t *code, uint8_t family, uint64_t serial);
+
+/* The table and the offsets of an accepted image; the bodies are zero. */
+void bench_lay_out(struct bench *b, const enum kind *kinds, size_t count);
+
+/* Lays out a bench and fills the bodies with what a number determines. */
+void bench_make(struct bench *b, const enum kind *kinds, size_t count,
+                uint64_t number);
+
+/* A device's bytes from an offset in its body on. */
+uint8_t *bench_at(struct bench *b, size_t device, size_t offset);
+const uint8_t *bench_see(const struct bench *b, size_t device, size_t offset);
+
+/* Gives a device a code of its family that no earlier device has. */
+void bench_give_code(struct bench *b, size_t device, uint64_t serial);
+
+/* Whether no device is of another kind than DS1982. */
+int bench_takes_pulses(const struct bench *b);
+
+/* Writes the name of the part of an image that a byte belongs to. */
+void bench_name_byte(const struct bench *b, size_t place, char *name,
+                     size_t room);
+
+#endif

@@ -1,0 +1,632 @@
+/*
+ * Cases of the run that a seed and a number determine: a bench, a session of
+ * transactions that mostly make sense, and at times damage.
+ */
+#include "run.h"
+
+#include "damage.h"
+#include "second.h"
+
+#include <string.h>
+
+/* ------------------------------------------------------------------ */
+/* Benches                                                             */
+
+/* Few devices mostly, at times as many as there can be. */
+static size_t some_count(struct dice *dice)
+{
+    switch (dice_below(dice, 16)) {
+    case 0:
+        return dice_below(dice, 2) * MOST_DEVICES;
+    case 1:
+        return 17 + dice_below(dice, MOST_DEVICES - 16);
+    case 2:
+    case 3:
+        return 5 + dice_below(dice, 12);
+    case 4:
+    case 5:
+    case 6:
+    case 7:
+    case 8:
+        return 2 + dice_below(dice, 3);
+    default:
+        return 1;
+    }
+}
+
+/* Any kinds, no DS1982, or one kind only: pulses need DS1982 only. */
+static void some_kinds(struct dice *dice, enum kind *kinds, size_t count)
+{
+    static const enum kind only[] = { DS1982, DS1982, DS1982, DS1992, DS1993 };
+    const size_t ways = sizeof only / sizeof *only;
+    const size_t way = dice_below(dice, ways + 3);
+
+    for (size_t i = 0; i < count; i++)
+        if (way < ways)
+            kinds[i] = only[way];
+        else if (way == ways)
+            kinds[i] = dice_once_in(dice, 2) ? DS1992 : DS1993;
+        else
+            kinds[i] = (enum kind)dice_below(dice, KINDS);
+}
+
+/* Any serial numbers, or some that share their first or their last bits. */
+static void some_codes(struct dice *dice, struct bench *b)
+{
+    const size_t way = dice_below(dice, 5);
+    const uint64_t base = dice_once_in(dice, 4) ? 0 : dice_roll(dice);
+    const size_t shift = dice_below(dice, 48 - 6);
+
+    for (size_t i = 0; i < b->count; i++)
+        switch (way) {
+        case 0: /* one after the other */
+            bench_give_code(b, i, base + i);
+            break;
+        case 1: /* long common prefixes: the last six bits vary */
+            bench_give_code(b, i, base ^ (uint64_t)i << (48 - 6));
+            break;
+        case 2: /* and common ends as well */
+            bench_give_code(b, i, base ^ (uint64_t)i << shift);
+            break;
+        case 3: /* one bit after the other */
+            bench_give_code(b, i, base ^ (uint64_t)1 << i % 48);
+            break;
+        default:
+            bench_give_code(b, i, dice_roll(dice));
+        }
+}
+
+static void some_bytes(struct dice *dice, uint8_t *bytes, size_t count)
+{
+    switch (dice_below(dice, 6)) {
+    case 0:
+        memset(bytes, 0x00, count);
+        break;
+    case 1:
+        memset(bytes, 0xFF, count);
+        break;
+    default:
+        dice_fill(dice, bytes, count);
+    }
+}
+
+/* Any registers, or such that a copy has somewhere to go. */
+static void some_registers(struct dice *dice, struct bench *b, size_t i)
+{
+    uint8_t *const registers = bench_at(b, i, TA1);
+    const size_t target = dice_below(dice, kind_memory_bytes(b->kinds[i]));
+
+    if (dice_once_in(dice, 4))
+        return;
+    registers[0] = (uint8_t)target;
+    registers[1] = (uint8_t)(target >> 8);
+    if (dice_once_in(dice, 2))
+        registers[2] &= 0x1F;
+}
+
+static void some_body(struct dice *dice, struct bench *b, size_t i)
+{
+    if (b->kinds[i] == DS1982) {
+        some_bytes(dice, bench_at(b, i, STATUS), STATUS_BYTES);
+        some_bytes(dice, bench_at(b, i, DATA), DATA_BYTES);
+    } else {
+        some_bytes(dice, bench_at(b, i, TA1), 3);
+        some_registers(dice, b, i);
+        some_bytes(dice, bench_at(b, i, SCRATCHPAD), PAGE_BYTES);
+        some_bytes(dice, bench_at(b, i, MEMORY),
+                   kind_memory_bytes(b->kinds[i]));
+    }
+}
+
+static void some_bench(struct dice *dice, struct bench *b)
+{
+    enum kind kinds[MOST_DEVICES];
+    const size_t count = some_count(dice);
+
+    some_kinds(dice, kinds, count);
+    bench_lay_out(b, kinds, count);
+    some_codes(dice, b);
+    for (size_t i = 0; i < count; i++)
+        some_body(dice, b, i);
+}
+
+/* ------------------------------------------------------------------ */
+/* Sessions                                                            */
+
+/*
+ * A session being written.  To know the registers a device will have, the
+ * second program runs what is written so far, part by part.
+ */
+struct session {
+    struct dice *dice;
+    struct trace *trace;
+    const struct bench *bench;
+    int pulses;     /* whether any are sent */
+    size_t start;   /* of the present transaction: its reset */
+    size_t learned; /* events that have been run; the next is a reset */
+    uint8_t image[BENCH_ROOM]; /* as these events leave it */
+    uint8_t answers[TRACE_ROOM];
+};
+
+/*
+ * Runs on to the present transaction.  Its reset is run as well, for what a
+ * reset does to a byte cut short, and again as the first event of the next
+ * part, where it does nothing.  A part that is refused teaches nothing.
+ */
+static void learn(struct session *s)
+{
+    if (s->learned == 0)
+        memcpy(s->image, s->bench->bytes, s->bench->length);
+    second_run(s->image, s->bench->length, s->trace->events + s->learned,
+               s->start + 1 - s->learned, s->answers, sizeof s->answers);
+    s->learned = s->start;
+}
+
+static uint64_t any(struct session *s)
+{
+    return dice_roll(s->dice);
+}
+
+static size_t below(struct session *s, size_t bound)
+{
+    return dice_below(s->dice, bound);
+}
+
+static int once_in(struct session *s, size_t times)
+{
+    return dice_once_in(s->dice, times);
+}
+
+static void send_any_bits(struct session *s, size_t count)
+{
+    for (size_t i = 0; i < count; i += 64)
+        trace_bits(s->trace, any(s), count - i < 64 ? count - i : 64);
+}
+
+/* Slots in which the master mostly listens. */
+static void listen(struct session *s, size_t slots)
+{
+    switch (below(s, 20)) {
+    case 0:
+        send_any_bits(s, slots);
+        break;
+    case 1:
+        trace_repeat(s->trace, WRITE_ZERO, slots);
+        break;
+    default:
+        trace_read(s->trace, slots);
+    }
+}
+
+/* Slots to read from a field of so many bytes: few, to its end, or past it. */
+static size_t some_slots(struct session *s, size_t bytes)
+{
+    switch (below(s, 12)) {
+    case 0:
+        return below(s, 8 * bytes + 40);
+    case 1:
+        return 8 * bytes + below(s, 40);
+    case 2:
+        return 0;
+    default:
+        return below(s, 80);
+    }
+}
+
+/* An address in a field of so many bytes, or around it, or anywhere. */
+static uint16_t some_address(struct session *s, size_t bytes)
+{
+    const size_t within = below(s, bytes);
+
+    switch (below(s, 10)) {
+    case 0:
+        return (uint16_t)any(s);
+    case 1:
+        return (uint16_t)(bytes - 4 + below(s, 8));
+    case 2:
+        return (uint16_t)(within / PAGE_BYTES * PAGE_BYTES);
+    case 3:
+        return (uint16_t)(within | (PAGE_BYTES - 1));
+    case 4: /* would be cut to one within */
+        return (uint16_t)(within + bytes * below(s, 1000));
+    default:
+        return (uint16_t)within;
+    }
+}
+
+/* ------------------------------------------------------------------ */
+/* Sessions: ROM commands                                              */
+
+/* A device's code, or any where there is no device. */
+static void code_of(struct session *s, size_t device, uint8_t *code)
+{
+    if (s->bench->count == 0)
+        code_write(code, kind_family(DS1992), any(s));
+    else
+        memcpy(code, bench_see(s->bench, device, 0), CODE_BYTES);
+}
+
+static void address_by_code(struct session *s, size_t device, int search)
+{
+    uint8_t code[CODE_BYTES];
+
+    code_of(s, device, code);
+    if (once_in(s, 12)) {
+        const size_t bit = below(s, CODE_BITS);
+
+        code[bit / 8] ^= (uint8_t)(1u << bit % 8);
+    }
+    if (search) {
+        trace_byte(s->trace, SEARCH_ROM);
+        trace_search_path(s->trace, code);
+    } else {
+        trace_byte(s->trace, MATCH_ROM);
+        trace_bytes(s->trace, code, CODE_BYTES);
+    }
+}
+
+static void rom_command(struct session *s, size_t device)
+{
+    switch (below(s, 16)) {
+    case 0:
+        trace_byte(s->trace, (uint8_t)any(s));
+        send_any_bits(s, below(s, 80));
+        break;
+    case 1:
+        trace_byte(s->trace, READ_ROM);
+        listen(s, CODE_BITS);
+        break;
+    case 2:
+        address_by_code(s, device, 1);
+        break;
+    case 3:
+    case 4:
+    case 5:
+    case 6:
+    case 7:
+        address_by_code(s, device, 0);
+        break;
+    default:
+        trace_byte(s->trace, SKIP_ROM);
+    }
+}
+
+/* ------------------------------------------------------------------ */
+/* Sessions: memory commands of a DS1992 or DS1993                     */
+
+/* 0 to 300 bits: whole bytes, to the end of the page, past it, or any. */
+static size_t some_data_bits(struct session *s, uint16_t address)
+{
+    const size_t offset = address % PAGE_BYTES;
+    const size_t to_the_end = 8 * (PAGE_BYTES - offset);
+
+    switch (below(s, 8)) {
+    case 0:
+        return below(s, 301);
+    case 1:
+        return to_the_end;
+    case 2:
+        return to_the_end + below(s, 20);
+    case 3:
+        return below(s, 20);
+    default:
+        return 8 * below(s, 8);
+    }
+}
+
+static void write_scratchpad(struct session *s, size_t size)
+{
+    const uint16_t address = some_address(s, size);
+
+    trace_byte(s->trace, WRITE_SCRATCHPAD);
+    trace_address(s->trace, address);
+    send_any_bits(s, some_data_bits(s, address));
+}
+
+/*
+ * The pattern of a copy: mostly the registers as they will be, else as they
+ * were, with a flag or some bit changed, or anything.
+ */
+static void some_pattern(struct session *s, size_t device, uint8_t *pattern)
+{
+    learn(s);
+    memcpy(pattern, s->image + s->bench->bodies[device] + TA1, 3);
+    switch (below(s, 12)) {
+    case 0:
+        memcpy(pattern, bench_see(s->bench, device, TA1), 3);
+        break;
+    case 1:
+        pattern[2] ^= 0x80; /* as before the last copy, or after one */
+        break;
+    case 2:
+        pattern[2] &= 0x1F;
+        break;
+    case 3:
+        pattern[below(s, 3)] ^= (uint8_t)(1u << below(s, 8));
+        break;
+    case 4:
+        dice_fill(s->dice, pattern, 3);
+        break;
+    default:
+        break;
+    }
+}
+
+static void copy_scratchpad(struct session *s, size_t device)
+{
+    uint8_t pattern[3];
+
+    some_pattern(s, device, pattern);
+    trace_byte(s->trace, COPY_SCRATCHPAD);
+    trace_bytes(s->trace, pattern, 3);
+    listen(s, below(s, 40));
+}
+
+static void use_sram(struct session *s, size_t device)
+{
+    const size_t size = kind_memory_bytes(s->bench->kinds[device]);
+
+    switch (below(s, 8)) {
+    case 0:
+        trace_byte(s->trace, READ_SCRATCHPAD);
+        listen(s, some_slots(s, 3 + PAGE_BYTES));
+        break;
+    case 1:
+        trace_byte(s->trace, READ_MEMORY);
+        trace_address(s->trace, some_address(s, size));
+        listen(s, some_slots(s, size));
+        break;
+    case 2:
+    case 3:
+    case 4:
+        copy_scratchpad(s, device);
+        break;
+    default:
+        write_scratchpad(s, size);
+    }
+}
+
+/* ------------------------------------------------------------------ */
+/* Sessions: memory commands of a DS1982                               */
+
+static void send_pulse(struct session *s)
+{
+    if (s->pulses)
+        trace_event(s->trace, PULSE);
+}
+
+/* One pass of a write: at times its pulse is missing, early, or doubled. */
+static void program_pass(struct session *s)
+{
+    const size_t fate = below(s, 40);
+
+    trace_byte(s->trace, once_in(s, 8) ? 0x00 : (uint8_t)any(s));
+    if (fate == 0)
+        send_pulse(s);
+    listen(s, fate == 1 ? below(s, 12) : 8);
+    if (fate != 2)
+        send_pulse(s);
+    if (fate == 3)
+        send_pulse(s);
+    listen(s, fate == 4 ? below(s, 12) : 8);
+}
+
+static void program(struct session *s, uint8_t command)
+{
+    const size_t size = command == WRITE_DATA ? DATA_BYTES : STATUS_BYTES;
+    const size_t most = once_in(s, 10) ? size + 2 : 5;
+    const size_t passes = below(s, most + 1);
+
+    trace_byte(s->trace, command);
+    trace_address(s->trace, some_address(s, size));
+    for (size_t i = 0; i < passes; i++)
+        program_pass(s);
+    send_any_bits(s, below(s, 9));
+}
+
+static void read_eprom(struct session *s, uint8_t command)
+{
+    const size_t size = command == READ_STATUS ? STATUS_BYTES : DATA_BYTES;
+    const size_t crcs = command == READ_DATA_BY_PAGE ? 5 : 2;
+
+    trace_byte(s->trace, command);
+    trace_address(s->trace, some_address(s, size));
+    listen(s, some_slots(s, size + crcs));
+}
+
+static void use_eprom(struct session *s)
+{
+    static const uint8_t reads[] = { READ_DATA, READ_STATUS,
+                                     READ_DATA_BY_PAGE };
+
+    switch (below(s, 8)) {
+    case 0:
+    case 1:
+    case 2:
+        read_eprom(s, reads[below(s, sizeof reads)]);
+        break;
+    case 3:
+    case 4:
+        program(s, WRITE_STATUS);
+        break;
+    default:
+        program(s, WRITE_DATA);
+    }
+}
+
+/* ------------------------------------------------------------------ */
+/* Sessions: transactions                                              */
+
+/* Any command, and anything after it. */
+static void use_anything(struct session *s)
+{
+    trace_byte(s->trace, (uint8_t)any(s));
+    if (once_in(s, 2))
+        send_any_bits(s, below(s, 100));
+    else
+        listen(s, below(s, 100));
+}
+
+static void memory_command(struct session *s, size_t device)
+{
+    if (s->bench->count == 0 || once_in(s, 16))
+        use_anything(s);
+    else if (s->bench->kinds[device] == DS1982)
+        use_eprom(s);
+    else
+        use_sram(s, device);
+}
+
+/* From a reset to the end, or cut anywhere. */
+static void transaction(struct session *s, size_t device)
+{
+    if (s->trace->length == MOST_EVENTS)
+        return;
+    s->start = s->trace->length;
+    trace_event(s->trace, RESET);
+    rom_command(s, device);
+    memory_command(s, device);
+    if (once_in(s, 8)) {
+        const size_t events = s->trace->length - s->start;
+
+        s->trace->length = s->start + 1 + below(s, events);
+    }
+}
+
+/* The device a transaction is about: mostly the one that others are. */
+static size_t some_device(struct session *s, size_t favourite)
+{
+    return s->bench->count == 0 || once_in(s, 2) ? favourite
+                                                 : below(s, s->bench->count);
+}
+
+static size_t some_transactions(struct session *s)
+{
+    if (once_in(s, 400))
+        return 10000; /* more than a trace can hold */
+    return once_in(s, 20) ? below(s, 60) : below(s, 14);
+}
+
+static void transactions(struct session *s)
+{
+    const size_t favourite = s->bench->count ? below(s, s->bench->count) : 0;
+    const size_t count = some_transactions(s);
+
+    if (once_in(s, 20)) /* before any reset */
+        send_any_bits(s, below(s, 40));
+    for (size_t i = 0; i < count && s->trace->length < MOST_EVENTS; i++)
+        transaction(s, some_device(s, favourite));
+}
+
+/* The whole search of a master. */
+static void search_all(struct session *s)
+{
+    uint8_t codes[MOST_DEVICES * CODE_BYTES];
+    uint64_t passes, resets, slots;
+
+    if (second_search(s->bench->bytes, s->bench->length, codes, sizeof codes,
+                      s->answers, sizeof s->answers, &passes, &resets, &slots)
+        == 0)
+        trace_events(s->trace, s->answers, (size_t)(resets + slots));
+}
+
+/* Any event at any place, over another or between two. */
+static void disturb(struct session *s)
+{
+    struct trace *const t = s->trace;
+    const size_t kinds = s->pulses ? 4 : 3;
+    const size_t place = below(s, t->length + 1);
+    const uint8_t event = (uint8_t)below(s, kinds);
+
+    if (place == t->length || once_in(s, 2)) {
+        if (t->length == MOST_EVENTS)
+            return;
+        memmove(t->events + place + 1, t->events + place, t->length - place);
+        t->length++;
+    }
+    t->events[place] = event;
+}
+
+static void some_session(struct dice *dice, struct run_case *c)
+{
+    struct session s;
+
+    s.dice = dice;
+    s.trace = &c->trace;
+    s.bench = &c->bench;
+    s.pulses = bench_takes_pulses(&c->bench) || dice_once_in(dice, 40);
+    s.start = 0;
+    s.learned = 0;
+    c->trace.length = 0;
+    if (dice_once_in(dice, 100))
+        search_all(&s);
+    transactions(&s);
+    if (dice_once_in(dice, 8))
+        for (size_t i = dice_below(dice, 6); i > 0; i--)
+            disturb(&s);
+}
+
+/* ------------------------------------------------------------------ */
+/* Cases                                                               */
+
+/* Mostly just enough, at times more or less. */
+static size_t some_room(struct dice *dice, size_t length)
+{
+    switch (dice_below(dice, 40)) {
+    case 0:
+        return dice_below(dice, length + 1);
+    case 1:
+        return length - (length > 0);
+    case 2:
+    case 3:
+    case 4:
+    case 5:
+        return length + dice_below(dice, 40);
+    default:
+        return length;
+    }
+}
+
+/* A damage for any of the refusals, each as often as the others. */
+static size_t which_damage(struct dice *dice)
+{
+    const unsigned number = 1 + (unsigned)dice_below(dice, LAST_NUMBER);
+    size_t damage;
+
+    do
+        damage = dice_below(dice, damage_count());
+    while (damage_number(damage) != number);
+    return damage;
+}
+
+static void do_damage(struct dice *dice, struct run_case *c, size_t damage)
+{
+    damage_do(damage, c, (size_t)(dice_roll(dice) >> 20));
+}
+
+/* One damage or two; or some byte near the start, where the table is. */
+static void some_damage(struct dice *dice, struct run_case *c)
+{
+    const size_t bytes = c->bench.length < 600 ? c->bench.length : 600;
+    const size_t first = which_damage(dice), second = which_damage(dice);
+
+    if (dice_once_in(dice, 4))
+        c->bench.bytes[dice_below(dice, bytes)] = (uint8_t)dice_roll(dice);
+    else
+        do_damage(dice, c, first > second ? first : second);
+    if (first != second && dice_once_in(dice, 2))
+        do_damage(dice, c, first < second ? first : second);
+}
+
+void run_generated_case(struct run_case *c, uint64_t seed, uint64_t number)
+{
+    struct dice dice = dice_for(seed, number);
+
+    some_bench(&dice, &c->bench);
+    some_session(&dice, c);
+    c->answers = some_room(&dice, c->trace.length);
+    c->expected = ANY_NUMBER;
+    c->null = dice_once_in(&dice, 2);
+    if (dice_once_in(&dice, 6))
+        some_damage(&dice, c);
+}

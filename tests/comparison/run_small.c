@@ -1,0 +1,812 @@
+/*
+ * The small cases of the run, in groups that are gone through whole.  A case
+ * is made from its number alone, whose digits select what varies; a number
+ * with digits left over is past the last case.
+ */
+#include "run.h"
+
+#include "damage.h"
+
+/* Room for the answers that a group leaves open: see run_small_case. */
+static const size_t AS_THE_TRACE = SIZE_MAX;
+
+/* ------------------------------------------------------------------ */
+/* Benches                                                             */
+
+/*
+ * Registers that a copy can act on, with every flag set, and a status that
+ * protects page 1: so that flags and protection make a difference.
+ */
+static void set_registers(struct bench *b)
+{
+    for (size_t i = 0; i < b->count; i++) {
+        uint8_t *const registers = bench_at(b, i, TA1);
+
+        if (b->kinds[i] == DS1982) {
+            *bench_at(b, i, STATUS) = 0x0D;
+        } else {
+            registers[0] = 0x26;
+            registers[1] = 0x00;
+            registers[2] = 0xE9;
+        }
+    }
+}
+
+static void bench_of(struct run_case *c, const enum kind *kinds, size_t count)
+{
+    bench_make(&c->bench, kinds, count, count);
+    set_registers(&c->bench);
+}
+
+static void bench_of_one(struct run_case *c, enum kind kind)
+{
+    bench_of(c, &kind, 1);
+}
+
+/* A bench of one device, or, one past the last kind, of none. */
+static void bench_of_one_or_none(struct run_case *c, size_t kind)
+{
+    const enum kind one = kind < KINDS ? (enum kind)kind : DS1992;
+
+    bench_of(c, &one, kind < KINDS);
+}
+
+/* A bench of two; the first kind is the last digit of a number under 9. */
+static void bench_of_two(struct run_case *c, size_t number)
+{
+    const enum kind kinds[] = { (enum kind)(number % KINDS),
+                                (enum kind)(number / KINDS) };
+
+    bench_of(c, kinds, 2);
+}
+
+/* The code of the only device; zeros where there is none. */
+static const uint8_t *only_code(const struct bench *b)
+{
+    static const uint8_t none[CODE_BYTES] = { 0 };
+
+    return b->count == 0 ? none : bench_see(b, 0, 0);
+}
+
+/* ------------------------------------------------------------------ */
+/* Transactions under Skip ROM                                         */
+
+static void write_scratchpad(struct trace *t, uint16_t address, uint64_t bits,
+                             size_t count)
+{
+    trace_skip(t);
+    trace_byte(t, WRITE_SCRATCHPAD);
+    trace_address(t, address);
+    trace_bits(t, bits, count);
+}
+
+static void read_scratchpad(struct trace *t, size_t slots)
+{
+    trace_skip(t);
+    trace_byte(t, READ_SCRATCHPAD);
+    trace_read(t, slots);
+}
+
+static void copy_scratchpad(struct trace *t, uint16_t target, uint8_t es,
+                            size_t slots)
+{
+    trace_skip(t);
+    trace_byte(t, COPY_SCRATCHPAD);
+    trace_address(t, target);
+    trace_byte(t, es);
+    trace_read(t, slots);
+}
+
+/* A read that takes an address: of memory, data or status. */
+static void read_from(struct trace *t, uint8_t command, uint16_t address,
+                      size_t slots)
+{
+    trace_skip(t);
+    trace_byte(t, command);
+    trace_address(t, address);
+    trace_read(t, slots);
+}
+
+/* A data byte, its CRC, the pulse, and the byte stored. */
+static void program_pass(struct trace *t, uint8_t byte)
+{
+    trace_byte(t, byte);
+    trace_read(t, 8);
+    trace_event(t, PULSE);
+    trace_read(t, 8);
+}
+
+static void program(struct trace *t, uint8_t command, uint16_t address,
+                    uint8_t first, uint8_t second)
+{
+    trace_skip(t);
+    trace_byte(t, command);
+    trace_address(t, address);
+    program_pass(t, first);
+    program_pass(t, second);
+}
+
+/* ------------------------------------------------------------------ */
+/* Typical sessions                                                    */
+
+/* Match, search and Read ROM, each with a read of memory after it. */
+static void rom_session(struct trace *t, const uint8_t *code)
+{
+    trace_match(t, code);
+    trace_byte(t, READ_MEMORY);
+    trace_address(t, 0x0025);
+    trace_read(t, 40);
+    trace_search(t, code);
+    trace_byte(t, READ_MEMORY);
+    trace_address(t, 0x007F);
+    trace_read(t, 20);
+    trace_event(t, RESET);
+    trace_byte(t, READ_ROM);
+    trace_read(t, CODE_BITS);
+    trace_byte(t, READ_MEMORY);
+    trace_address(t, 0x0000);
+    trace_read(t, 20);
+    trace_event(t, RESET);
+}
+
+/* Written, read back, copied, copied with patterns old and new. */
+static void sram_session(struct trace *t, const uint8_t *code)
+{
+    write_scratchpad(t, 0x0026, 0xBEEF, 16);
+    read_scratchpad(t, 48);
+    copy_scratchpad(t, 0x0026, 0x07, 10);
+    copy_scratchpad(t, 0x0026, 0x07, 10);
+    copy_scratchpad(t, 0x0026, 0x87, 10);
+    write_scratchpad(t, 0x003C, 0x5544332211, 40); /* overflows */
+    write_scratchpad(t, 0x0026, 0x2A5, 11);        /* ends within a byte */
+    read_scratchpad(t, 48);
+    rom_session(t, code);
+}
+
+/* Reads at the ends of fields, writes across pages and under protection. */
+static void eprom_session(struct trace *t, const uint8_t *code)
+{
+    read_from(t, READ_DATA, 0x007E, 40);
+    read_from(t, READ_STATUS, 0x0005, 48);
+    read_from(t, READ_DATA_BY_PAGE, 0x005E, 56);
+    program(t, WRITE_DATA, 0x001F, 0x5A, 0xC3);
+    program(t, WRITE_STATUS, 0x0000, 0xFB, 0x0F);
+    program(t, WRITE_DATA, 0x0040, 0x00, 0x00);
+    rom_session(t, code);
+}
+
+static void typical_session(struct run_case *c, enum kind kind)
+{
+    if (kind == DS1982)
+        eprom_session(&c->trace, only_code(&c->bench));
+    else
+        sram_session(&c->trace, only_code(&c->bench));
+}
+
+/* ------------------------------------------------------------------ */
+/* Commands                                                            */
+
+/* What can follow a ROM command before the memory command. */
+static void after_rom_command(struct trace *t, const uint8_t *code, size_t way)
+{
+    switch (way) {
+    case 0:
+        break;
+    case 1:
+        trace_bytes(t, code, CODE_BYTES);
+        break;
+    case 2:
+        trace_read(t, CODE_BITS);
+        break;
+    default:
+        trace_search_path(t, code);
+    }
+}
+
+/* Every ROM command byte on each kind. */
+static int rom_commands(struct run_case *c, size_t number)
+{
+    const enum kind kind = (enum kind)digit(&number, KINDS);
+    const size_t way = digit(&number, 4);
+    const uint8_t command = (uint8_t)digit(&number, 256);
+
+    bench_of_one(c, kind);
+    trace_event(&c->trace, RESET);
+    trace_byte(&c->trace, command);
+    after_rom_command(&c->trace, only_code(&c->bench), way);
+    trace_byte(&c->trace, READ_MEMORY);
+    trace_address(&c->trace, 0x0000);
+    trace_read(&c->trace, 24);
+    return number == 0;
+}
+
+enum { WAYS_AFTER_MEMORY_COMMAND = 7 };
+
+/* A write as if by every kind: address, data, a pulse if it is allowed. */
+static void write_on(struct run_case *c)
+{
+    struct trace *const t = &c->trace;
+
+    trace_address(t, 0x001F);
+    for (uint8_t byte = 0x3C; byte < 0x3E; byte++) {
+        trace_byte(t, byte);
+        trace_read(t, 8);
+        if (bench_takes_pulses(&c->bench))
+            trace_event(t, PULSE);
+        trace_read(t, 8);
+    }
+    trace_bits(t, 5, 3);
+    trace_event(t, RESET);
+}
+
+/* The first device's registers as a pattern, their flags masked or not. */
+static void pattern_on(struct run_case *c, uint8_t mask)
+{
+    const uint8_t *const registers = bench_see(&c->bench, 0, TA1);
+
+    trace_bytes(&c->trace, registers, 2);
+    trace_byte(&c->trace, registers[2] & mask);
+    trace_read(&c->trace, 16);
+}
+
+/* What can follow a memory command. */
+static void after_memory_command(struct run_case *c, size_t way)
+{
+    struct trace *const t = &c->trace;
+
+    switch (way) {
+    case 0:
+        trace_read(t, 300);
+        break;
+    case 1:
+        trace_repeat(t, WRITE_ZERO, 50);
+        break;
+    case 2:
+        write_on(c);
+        break;
+    case 3:
+        pattern_on(c, 0xFF);
+        break;
+    case 4:
+        pattern_on(c, 0x1F);
+        break;
+    case 5:
+        trace_address(t, 0x007E);
+        trace_read(t, 64);
+        break;
+    default: /* not an address of any kind */
+        trace_address(t, 0xA586);
+        trace_read(t, 64);
+    }
+}
+
+/* Every memory command byte on each kind. */
+static int memory_commands(struct run_case *c, size_t number)
+{
+    const enum kind kind = (enum kind)digit(&number, KINDS);
+    const size_t way = digit(&number, WAYS_AFTER_MEMORY_COMMAND);
+    const uint8_t command = (uint8_t)digit(&number, 256);
+
+    bench_of_one(c, kind);
+    trace_skip(&c->trace);
+    trace_byte(&c->trace, command);
+    after_memory_command(c, way);
+    return number == 0;
+}
+
+/* Every pair of kinds under Skip ROM with every memory command byte. */
+static int pairs(struct run_case *c, size_t number)
+{
+    const size_t kinds = digit(&number, KINDS * KINDS);
+    const size_t way = digit(&number, WAYS_AFTER_MEMORY_COMMAND);
+    const uint8_t command = (uint8_t)digit(&number, 256);
+
+    bench_of_two(c, kinds);
+    trace_skip(&c->trace);
+    trace_byte(&c->trace, command);
+    after_memory_command(c, way);
+    return number == 0;
+}
+
+/* ------------------------------------------------------------------ */
+/* Codes                                                               */
+
+/* A match and a search that go wrong at one bit, every bit of each kind. */
+static int wrong_turns(struct run_case *c, size_t number)
+{
+    const enum kind kind = (enum kind)digit(&number, KINDS);
+    const int match = digit(&number, 2) == 0;
+    const size_t bit = digit(&number, CODE_BITS);
+    uint8_t code[CODE_BYTES];
+
+    bench_of_one(c, kind);
+    for (size_t i = 0; i < CODE_BYTES; i++)
+        code[i] = only_code(&c->bench)[i];
+    code[bit / 8] ^= (uint8_t)(1u << bit % 8);
+    if (match)
+        trace_match(&c->trace, code);
+    else
+        trace_search(&c->trace, code);
+    trace_byte(&c->trace, READ_MEMORY);
+    trace_address(&c->trace, 0x0000);
+    trace_read(&c->trace, 24);
+    return number == 0;
+}
+
+/* Two devices whose serial numbers differ in one bit, every such bit. */
+static int forks(struct run_case *c, size_t number)
+{
+    const size_t kinds = digit(&number, KINDS * KINDS);
+    const size_t way = digit(&number, 4);
+    const size_t bit = digit(&number, 48);
+    const uint8_t *code;
+
+    bench_of_two(c, kinds);
+    bench_give_code(&c->bench, 0, 0x123456789ABC);
+    bench_give_code(&c->bench, 1, 0x123456789ABC ^ (uint64_t)1 << bit);
+    code = bench_see(&c->bench, way % 2, 0);
+    if (way < 2)
+        trace_match(&c->trace, code);
+    else
+        trace_search(&c->trace, code);
+    trace_byte(&c->trace, READ_MEMORY);
+    trace_address(&c->trace, 0x0000);
+    trace_read(&c->trace, 24);
+    trace_event(&c->trace, RESET);
+    trace_byte(&c->trace, READ_ROM);
+    trace_read(&c->trace, CODE_BITS + 8);
+    return number == 0;
+}
+
+/* ------------------------------------------------------------------ */
+/* Addresses                                                           */
+
+/* The E/S register after two bytes were written at an address. */
+static uint8_t es_after_two_bytes(uint16_t address)
+{
+    const uint8_t first = address % PAGE_BYTES;
+
+    return first == PAGE_BYTES - 1 ? 0x40 | first : first + 1;
+}
+
+static void use_address(struct trace *t, enum kind kind, uint8_t command,
+                        uint16_t address)
+{
+    if (kind != DS1982 && command == WRITE_SCRATCHPAD) {
+        write_scratchpad(t, address, 0xC35A, 16);
+        copy_scratchpad(t, address, es_after_two_bytes(address), 4);
+    } else if (command == WRITE_DATA || command == WRITE_STATUS) {
+        program(t, command, address, 0x5A, 0x0F);
+    } else {
+        read_from(t, command, address, 40);
+    }
+}
+
+/* Every address, within the device and past it: read, written, programmed. */
+static int addresses(struct run_case *c, size_t number)
+{
+    static const struct {
+        enum kind kind;
+        uint8_t command;
+    } uses[] = { { DS1992, READ_MEMORY },       { DS1992, WRITE_SCRATCHPAD },
+                 { DS1993, READ_MEMORY },       { DS1993, WRITE_SCRATCHPAD },
+                 { DS1982, READ_DATA },         { DS1982, READ_STATUS },
+                 { DS1982, READ_DATA_BY_PAGE }, { DS1982, WRITE_DATA },
+                 { DS1982, WRITE_STATUS } };
+    const size_t use = digit(&number, sizeof uses / sizeof *uses);
+    const uint16_t address = (uint16_t)digit(&number, 0x10000);
+
+    bench_of_one(c, uses[use].kind);
+    use_address(&c->trace, uses[use].kind, uses[use].command, address);
+    return number == 0;
+}
+
+/* From every address to the end of the device, and on. */
+static int reads_to_the_end(struct run_case *c, size_t number)
+{
+    static const struct {
+        enum kind kind;
+        uint8_t command;
+    } uses[] = { { DS1992, READ_MEMORY },
+                 { DS1993, READ_MEMORY },
+                 { DS1982, READ_DATA },
+                 { DS1982, READ_STATUS },
+                 { DS1982, READ_DATA_BY_PAGE } };
+    const size_t use = digit(&number, sizeof uses / sizeof *uses);
+    const size_t address = digit(&number, 512 + PAGE_BYTES);
+    const size_t size = kind_memory_bytes(uses[use].kind);
+    const size_t crcs = 5;
+
+    bench_of_one(c, uses[use].kind);
+    read_from(&c->trace, uses[use].command, (uint16_t)address,
+              8 * (size - address % size + crcs) + 20);
+    return number == 0;
+}
+
+/* The scratchpad read from every offset to its end, and on. */
+static int scratchpad_reads(struct run_case *c, size_t number)
+{
+    const enum kind kind = (enum kind)digit(&number, 2);
+    const size_t ta1 = digit(&number, 256);
+
+    bench_of_one(c, kind);
+    *bench_at(&c->bench, 0, TA1) = (uint8_t)ta1;
+    read_scratchpad(&c->trace, 24 + 8 * (PAGE_BYTES - ta1 % PAGE_BYTES) + 20);
+    return number == 0;
+}
+
+/* ------------------------------------------------------------------ */
+/* Scratchpads and copies                                              */
+
+/* Any bits, as many as are wanted. */
+static void some_bits(struct trace *t, uint64_t which, size_t count)
+{
+    struct dice dice = dice_for(1, which);
+
+    for (size_t i = 0; i < count; i += 64)
+        trace_bits(t, dice_roll(&dice), count - i < 64 ? count - i : 64);
+}
+
+/* 0 to 300 data bits from every offset, cut by a reset or by the end. */
+static int data_bits(struct run_case *c, size_t number)
+{
+    const size_t which = number;
+    const enum kind kind = (enum kind)digit(&number, 2);
+    const int reset = digit(&number, 2) == 0;
+    const size_t offset = digit(&number, PAGE_BYTES);
+    const size_t count = digit(&number, 301);
+
+    bench_of_one(c, kind);
+    write_scratchpad(&c->trace, (uint16_t)(0x0040 + offset), 0, 0);
+    some_bits(&c->trace, which, count);
+    if (reset)
+        trace_event(&c->trace, RESET);
+    return number == 0;
+}
+
+/* Every offset with every E/S, in pages within memory and past it. */
+static int copies(struct run_case *c, size_t number)
+{
+    const enum kind kind = (enum kind)digit(&number, 2);
+    const uint8_t mask = digit(&number, 2) == 0 ? 0xFF : 0x1F;
+    const size_t page = digit(&number, 4);
+    const size_t offset = digit(&number, PAGE_BYTES);
+    const uint8_t es = (uint8_t)digit(&number, 256);
+    const size_t size = kind_memory_bytes(kind);
+    const size_t pages[] = { 0, size - PAGE_BYTES, size,
+                             0x10000 - PAGE_BYTES };
+    const uint16_t target = (uint16_t)(pages[page] + offset);
+    uint8_t *registers;
+
+    bench_of_one(c, kind);
+    registers = bench_at(&c->bench, 0, TA1);
+    registers[0] = (uint8_t)target;
+    registers[1] = (uint8_t)(target >> 8);
+    registers[2] = es;
+    copy_scratchpad(&c->trace, target, es & mask, 10);
+    return number == 0;
+}
+
+/* ------------------------------------------------------------------ */
+/* Programming                                                         */
+
+/* Every byte programmed over every byte. */
+static int programmed_bytes(struct run_case *c, size_t number)
+{
+    const uint8_t stored = (uint8_t)digit(&number, 256);
+    const uint8_t byte = (uint8_t)digit(&number, 256);
+
+    bench_of_one(c, DS1982);
+    *bench_at(&c->bench, 0, DATA + 0x41) = stored;
+    trace_skip(&c->trace);
+    trace_byte(&c->trace, WRITE_DATA);
+    trace_address(&c->trace, 0x0041);
+    program_pass(&c->trace, byte);
+    return number == 0;
+}
+
+/* Every status byte 0, with writes at each end of every page. */
+static int protection(struct run_case *c, size_t number)
+{
+    const uint8_t command = digit(&number, 2) == 0 ? WRITE_DATA : WRITE_STATUS;
+    const size_t page = digit(&number, DATA_BYTES / PAGE_BYTES);
+    const size_t offset = digit(&number, 2) == 0 ? 0 : PAGE_BYTES - 1;
+    const uint8_t status = (uint8_t)digit(&number, 256);
+
+    bench_of_one(c, DS1982);
+    *bench_at(&c->bench, 0, STATUS) = status;
+    program(&c->trace, command, (uint16_t)(PAGE_BYTES * page + offset), 0x12,
+            0x48);
+    return number == 0;
+}
+
+/* 0 to 300 slots after the address of a write, with the pulses or without. */
+static int programming_slots(struct run_case *c, size_t number)
+{
+    const uint8_t command = digit(&number, 2) == 0 ? WRITE_DATA : WRITE_STATUS;
+    const int pulses = digit(&number, 2) == 0;
+    const uint16_t address = digit(&number, 2) == 0 ? 0x0000 : 0x007B;
+    const size_t count = digit(&number, 301);
+    struct dice dice = dice_for(2, count);
+
+    bench_of_one(c, DS1982);
+    trace_skip(&c->trace);
+    trace_byte(&c->trace, command);
+    trace_address(&c->trace, address);
+    for (size_t i = 0; i < count; i++) {
+        /* A pass is 24 slots: data, CRC, and after the pulse the byte. */
+        if (pulses && i % 24 == 16)
+            trace_event(&c->trace, PULSE);
+        trace_bits(&c->trace, i % 24 < 8 ? dice_roll(&dice) : 1, 1);
+    }
+    return number == 0;
+}
+
+/* ------------------------------------------------------------------ */
+/* Cuts                                                                */
+
+enum {
+    ENDS_THERE,
+    RESET_ENDS,
+    RESET_THERE,
+    ZERO_THERE,
+    ONE_THERE,
+    PULSE_THERE,
+    LEFT_OUT,
+    WAYS_TO_CUT
+};
+
+static void insert(struct trace *t, size_t place, enum event event)
+{
+    for (size_t i = t->length; i > place; i--)
+        t->events[i] = t->events[i - 1];
+    t->events[place] = (uint8_t)event;
+    t->length++;
+}
+
+static void leave_out(struct trace *t, size_t place)
+{
+    if (place == t->length)
+        return;
+    t->length--;
+    for (size_t i = place; i < t->length; i++)
+        t->events[i] = t->events[i + 1];
+}
+
+static void cut(struct trace *t, size_t way, size_t place)
+{
+    switch (way) {
+    case RESET_THERE:
+        insert(t, place, RESET);
+        break;
+    case ZERO_THERE:
+        insert(t, place, WRITE_ZERO);
+        break;
+    case ONE_THERE:
+        insert(t, place, WRITE_ONE);
+        break;
+    case PULSE_THERE:
+        insert(t, place, PULSE);
+        break;
+    case LEFT_OUT:
+        leave_out(t, place);
+        break;
+    default:
+        t->length = place;
+        if (way == RESET_ENDS)
+            trace_event(t, RESET);
+    }
+}
+
+/*
+ * A typical session that ends, is reset, gets an event too many or lacks one
+ * at every place.
+ */
+static int cuts(struct run_case *c, enum kind kind, size_t number)
+{
+    const size_t way = digit(&number, WAYS_TO_CUT);
+    size_t place;
+
+    bench_of_one(c, kind);
+    typical_session(c, kind);
+    place = digit(&number, c->trace.length + 1);
+    cut(&c->trace, way, place);
+    if (way == PULSE_THERE && kind != DS1982)
+        c->expected = 6;
+    return number == 0;
+}
+
+static int cuts_ds1992(struct run_case *c, size_t number)
+{
+    return cuts(c, DS1992, number);
+}
+
+static int cuts_ds1993(struct run_case *c, size_t number)
+{
+    return cuts(c, DS1993, number);
+}
+
+static int cuts_ds1982(struct run_case *c, size_t number)
+{
+    return cuts(c, DS1982, number);
+}
+
+/* ------------------------------------------------------------------ */
+/* The empty bench, and small and large lengths                        */
+
+/* The sessions on no device, cut at every place. */
+static int empty_bench(struct run_case *c, size_t number)
+{
+    const int eprom = digit(&number, 2) == 0;
+    size_t place;
+
+    bench_of_one_or_none(c, KINDS);
+    typical_session(c, eprom ? DS1982 : DS1992);
+    place = digit(&number, c->trace.length + 1);
+    c->trace.length = place;
+    return number == 0;
+}
+
+/* Every trace of up to six bytes 0 to 4, on no device and one of each kind. */
+static int short_traces(struct run_case *c, size_t number)
+{
+    const size_t kind = digit(&number, KINDS + 1);
+    size_t length = 0;
+
+    bench_of_one_or_none(c, kind);
+    c->expected = ANY_NUMBER;
+    for (size_t traces = 1; number >= traces; traces *= 5) {
+        number -= traces;
+        length++;
+    }
+    if (length > 6)
+        return 0;
+    for (size_t i = 0; i < length; i++)
+        c->trace.events[i] = (uint8_t)digit(&number, 5);
+    c->trace.length = length;
+    return 1;
+}
+
+/* No bytes and few, in each buffer. */
+static int lengths(struct run_case *c, size_t number)
+{
+    c->null = digit(&number, 2) == 0;
+    bench_of_one_or_none(c, digit(&number, KINDS + 1));
+    c->bench.length = digit(&number, 9);
+    trace_repeat(&c->trace, RESET, digit(&number, 4));
+    c->answers = digit(&number, 5);
+    c->expected = ANY_NUMBER;
+    return number == 0;
+}
+
+/* Every number of devices that a count can say. */
+static int counts(struct run_case *c, size_t number)
+{
+    enum kind kinds[MOST_ENTRIES];
+    const size_t kind = digit(&number, KINDS);
+    const size_t count = digit(&number, MOST_ENTRIES + 1);
+
+    for (size_t i = 0; i < count; i++) /* only DS1982 are small enough */
+        kinds[i] = count > MOST_DEVICES + 1 ? DS1982 : (enum kind)kind;
+    bench_of(c, kinds, count);
+    read_from(&c->trace, READ_MEMORY, 0x0000, 40);
+    c->expected = count > MOST_DEVICES ? 1 : 0;
+    return number == 0;
+}
+
+/* Traces and answers around the most events there can be. */
+static int limits(struct run_case *c, size_t number)
+{
+    const size_t kind = digit(&number, KINDS + 1);
+    const size_t length = MOST_EVENTS - 2 + digit(&number, 5);
+    const size_t answers = length - 2 + digit(&number, 5);
+
+    bench_of_one_or_none(c, kind);
+    while (c->trace.length < MOST_EVENTS)
+        typical_session(c, kind == KINDS ? DS1982 : (enum kind)kind);
+    for (size_t i = c->trace.length; i < length; i++)
+        c->trace.events[i] = RESET;
+    c->trace.length = length;
+    c->answers = answers;
+    c->expected = length > MOST_EVENTS ? 5 : answers < length ? 7 : 0;
+    return number == 0;
+}
+
+/* ------------------------------------------------------------------ */
+/* Refusals                                                            */
+
+/* Four devices or eight: of every kind, and more than one of some kinds. */
+static void bench_to_damage(struct run_case *c, size_t which)
+{
+    static const enum kind kinds[] = { DS1992, DS1993, DS1982, DS1982,
+                                       DS1992, DS1982, DS1993, DS1993 };
+
+    bench_of(c, kinds, which == 0 ? 4 : 8);
+    read_from(&c->trace, READ_MEMORY, 0x0010, 20);
+    c->answers = c->trace.length;
+}
+
+/* Each cause alone, in many ways. */
+static int refusals(struct run_case *c, size_t number)
+{
+    const size_t bench = digit(&number, 2);
+    const size_t damage = digit(&number, damage_count());
+    const size_t choice = digit(&number, 1024);
+
+    bench_to_damage(c, bench);
+    if (damage_do(damage, c, choice))
+        c->expected = damage_number(damage);
+    return number == 0;
+}
+
+/* Two causes at once, in some ways: the lower number wins. */
+static int refusals_in_pairs(struct run_case *c, size_t number)
+{
+    struct dice dice = dice_for(3, number);
+    const size_t bench = digit(&number, 2);
+    const size_t later = digit(&number, damage_count());
+    const size_t sooner = digit(&number, damage_count());
+
+    digit(&number, 48); /* ways, which the dice choose */
+    bench_to_damage(c, bench);
+    if (damage_do(later, c, dice_below(&dice, 10000)))
+        c->expected = damage_number(later);
+    if (sooner < later && damage_do(sooner, c, dice_below(&dice, 10000)))
+        c->expected = damage_number(sooner);
+    return number == 0;
+}
+
+/* ------------------------------------------------------------------ */
+
+/* The groups with most cases come last. */
+static const struct {
+    const char *name;
+    int (*make)(struct run_case *, size_t);
+} groups[] = {
+    { "rom_commands", rom_commands },
+    { "memory_commands", memory_commands },
+    { "pairs", pairs },
+    { "wrong_turns", wrong_turns },
+    { "forks", forks },
+    { "protection", protection },
+    { "programming_slots", programming_slots },
+    { "scratchpad_reads", scratchpad_reads },
+    { "reads_to_the_end", reads_to_the_end },
+    { "cuts_ds1992", cuts_ds1992 },
+    { "cuts_ds1993", cuts_ds1993 },
+    { "cuts_ds1982", cuts_ds1982 },
+    { "empty_bench", empty_bench },
+    { "lengths", lengths },
+    { "counts", counts },
+    { "limits", limits },
+    { "refusals", refusals },
+    { "refusals_in_pairs", refusals_in_pairs },
+    { "short_traces", short_traces },
+    { "data_bits", data_bits },
+    { "copies", copies },
+    { "programmed_bytes", programmed_bytes },
+    { "addresses", addresses },
+};
+
+const char *run_small_group(size_t group)
+{
+    return group < sizeof groups / sizeof *groups ? groups[group].name : NULL;
+}
+
+/*
+ * What a group does not say: the run is answered, there is room for the
+ * answers and at times a little more, empty buffers are null in every other
+ * case.
+ */
+int run_small_case(struct run_case *c, size_t group, size_t number)
+{
+    c->trace.length = 0;
+    c->answers = AS_THE_TRACE;
+    c->expected = 0;
+    c->null = number % 2 == 0;
+    if (!groups[group].make(c, number))
+        return 0;
+    if (c->answers == AS_THE_TRACE)
+        c->answers = c->trace.length + number % 3;
+    return 1;
+}

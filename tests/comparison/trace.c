@@ -1,0 +1,183 @@
+#include "trace.h"
+
+#include "bench.h"
+
+#include <string.h>
+
+/* ------------------------------------------------------------------ */
+/* Writing                                                             */
+
+void trace_event(struct trace *t, enum event event)
+{
+    if (t->length < MOST_EVENTS)
+        t->events[t->length++] = (uint8_t)event;
+}
+
+void trace_repeat(struct trace *t, enum event event, size_t count)
+{
+    for (size_t i = 0; i < count; i++)
+        trace_event(t, event);
+}
+
+/* Past 64 bits come zeros. */
+void trace_bits(struct trace *t, uint64_t bits, size_t count)
+{
+    for (size_t i = 0; i < count; i++) {
+        trace_event(t, bits & 1 ? WRITE_ONE : WRITE_ZERO);
+        bits >>= 1;
+    }
+}
+
+void trace_byte(struct trace *t, uint8_t byte)
+{
+    trace_bits(t, byte, 8);
+}
+
+void trace_bytes(struct trace *t, const uint8_t *bytes, size_t count)
+{
+    for (size_t i = 0; i < count; i++)
+        trace_byte(t, bytes[i]);
+}
+
+void trace_address(struct trace *t, uint16_t address)
+{
+    trace_bits(t, address, 16);
+}
+
+void trace_events(struct trace *t, const uint8_t *events, size_t count)
+{
+    for (size_t i = 0; i < count; i++)
+        trace_event(t, (enum event)events[i]);
+}
+
+void trace_read(struct trace *t, size_t slots)
+{
+    trace_repeat(t, WRITE_ONE, slots);
+}
+
+void trace_skip(struct trace *t)
+{
+    trace_event(t, RESET);
+    trace_byte(t, SKIP_ROM);
+}
+
+void trace_match(struct trace *t, const uint8_t *code)
+{
+    trace_event(t, RESET);
+    trace_byte(t, MATCH_ROM);
+    trace_bytes(t, code, CODE_BYTES);
+}
+
+void trace_search_path(struct trace *t, const uint8_t *code)
+{
+    for (size_t i = 0; i < CODE_BITS; i++) {
+        trace_read(t, 2);
+        trace_bits(t, code[i / 8] >> i % 8, 1);
+    }
+}
+
+void trace_search(struct trace *t, const uint8_t *code)
+{
+    trace_event(t, RESET);
+    trace_byte(t, SEARCH_ROM);
+    trace_search_path(t, code);
+}
+
+/* ------------------------------------------------------------------ */
+/* Showing                                                             */
+
+const char *event_name(uint8_t event)
+{
+    static const char *const names[] = { "write-zero slot", "write-one slot",
+                                         "reset", "program pulse" };
+
+    return event < sizeof names / sizeof *names ? names[event] : "no event";
+}
+
+static int is_slot(uint8_t event)
+{
+    return event <= WRITE_ONE;
+}
+
+/* The end of the row that starts at an event: up to eight slots, or one. */
+static size_t row_end(const struct trace *t, size_t start)
+{
+    size_t end = start;
+
+    while (end < t->length && end < start + 8 && is_slot(t->events[end]))
+        end++;
+    return end > start ? end : start + 1;
+}
+
+/* Room for eight levels and their byte. */
+enum { COLUMN = 16 };
+
+/*
+ * Levels in the order they came, and the byte where there are eight.  What is
+ * no level is a question mark.
+ */
+static void write_levels(char *text, const uint8_t *levels, size_t count)
+{
+    unsigned byte = 0;
+
+    for (size_t i = 0; i < count; i++) {
+        text[i] = levels[i] <= 1 ? (char)('0' + levels[i]) : '?';
+        byte |= (levels[i] & 1u) << i;
+    }
+    text[count] = '\0';
+    if (count == 8)
+        snprintf(text + 8, COLUMN - 8, " %02X", byte);
+}
+
+static void write_sent(char *text, const uint8_t *events, size_t count)
+{
+    if (is_slot(*events))
+        write_levels(text, events, count);
+    else if (*events == RESET)
+        strcpy(text, "reset");
+    else if (*events == PULSE)
+        strcpy(text, "pulse");
+    else
+        snprintf(text, COLUMN, "byte %02X", *events);
+}
+
+static void show_row(FILE *out, const struct trace *t, size_t start,
+                     size_t end, const uint8_t *const answers[2])
+{
+    const int both = answers[0] && answers[1];
+    char sent[COLUMN], given[2][COLUMN] = { "-", "-" };
+
+    write_sent(sent, t->events + start, end - start);
+    for (int i = 0; i < 2; i++)
+        if (answers[i])
+            write_levels(given[i], answers[i] + start, end - start);
+    fprintf(out, "  %6zu  %-11s  %-11s  %s%s\n", start, sent, given[0],
+            given[1], both && strcmp(given[0], given[1]) ? "  <--" : "");
+}
+
+static size_t count_rows(const struct trace *t)
+{
+    size_t rows = 0;
+
+    for (size_t i = 0; i < t->length; i = row_end(t, i))
+        rows++;
+    return rows;
+}
+
+void trace_show(FILE *out, const struct trace *t, const uint8_t *library,
+                const uint8_t *second)
+{
+    enum { FIRST_ROWS = 20, LAST_ROWS = 100 };
+    const uint8_t *const answers[2] = { library, second };
+    const size_t rows = count_rows(t);
+    size_t row = 0;
+
+    fprintf(out, "   event  sent         library      second\n");
+    for (size_t i = 0; i < t->length; i = row_end(t, i), row++) {
+        if (row < FIRST_ROWS || row + LAST_ROWS >= rows)
+            show_row(out, t, i, row_end(t, i), answers);
+        else if (row == FIRST_ROWS)
+            fprintf(out, "     ...  %zu rows left out\n",
+                    rows - FIRST_ROWS - LAST_ROWS);
+    }
+}

@@ -1,0 +1,76 @@
+/* Traces: written command by command, and shown to a person. */
+#ifndef TRACE_H
+#define TRACE_H
+
+#include <stddef.h>
+#include <stdint.h>
+#include <stdio.h>
+
+enum event { WRITE_ZERO, WRITE_ONE, RESET, PULSE };
+
+enum {
+    MOST_EVENTS = 32768,
+    TRACE_ROOM = MOST_EVENTS + 512 /* for traces that are too long */
+};
+
+/* ROM commands. */
+enum {
+    READ_ROM = 0x33,
+    MATCH_ROM = 0x55,
+    SKIP_ROM = 0xCC,
+    SEARCH_ROM = 0xF0
+};
+
+/* Memory commands of a DS1992 or DS1993. */
+enum {
+    WRITE_SCRATCHPAD = 0x0F,
+    COPY_SCRATCHPAD = 0x55,
+    READ_SCRATCHPAD = 0xAA,
+    READ_MEMORY = 0xF0
+};
+
+/* Memory commands of a DS1982. */
+enum {
+    WRITE_DATA = 0x0F,
+    WRITE_STATUS = 0x55,
+    READ_STATUS = 0xAA,
+    READ_DATA_BY_PAGE = 0xC3,
+    READ_DATA = 0xF0
+};
+
+struct trace {
+    size_t length;
+    uint8_t events[TRACE_ROOM];
+};
+
+/* Each adds to the end of a trace; what is over MOST_EVENTS is dropped. */
+void trace_event(struct trace *t, enum event event);
+void trace_repeat(struct trace *t, enum event event, size_t count);
+void trace_bits(struct trace *t, uint64_t bits, size_t count);
+void trace_byte(struct trace *t, uint8_t byte);
+void trace_bytes(struct trace *t, const uint8_t *bytes, size_t count);
+void trace_address(struct trace *t, uint16_t address);
+void trace_events(struct trace *t, const uint8_t *events, size_t count);
+
+/* Slots in which the master only listens. */
+void trace_read(struct trace *t, size_t slots);
+
+/* A reset and Skip ROM, Match ROM, or the path of a search to a code. */
+void trace_skip(struct trace *t);
+void trace_match(struct trace *t, const uint8_t *code);
+void trace_search(struct trace *t, const uint8_t *code);
+
+/* What Search ROM sends after its command to come to a code. */
+void trace_search_path(struct trace *t, const uint8_t *code);
+
+/* The name of an event byte. */
+const char *event_name(uint8_t event);
+
+/*
+ * Shows a trace, a byte's worth of slots in a line, beside the answers of both
+ * programs; answers may be NULL.  The middle of a long trace is left out.
+ */
+void trace_show(FILE *out, const struct trace *t, const uint8_t *library,
+                const uint8_t *second);
+
+#endif
