@@ -50,7 +50,7 @@ level-more Reset (x ∷ xs) d = refl
 level-more Pulse xs d = refl
 
 -- ---- the devices of one line state more
-devices-more : (image : List ℕ) (j : ℕ) (states : List LineState) (state : LineState)
+pub devices-more : (image : List ℕ) (j : ℕ) (states : List LineState) (state : LineState)
     → devicesIn image j (states ++ state ∷ []) ≡ devicesIn image j states ++ deviceIn image (j + length states) state ∷ []
 unfolding devicesIn
 devices-more image j [] state =
@@ -75,7 +75,7 @@ level-upto image lines byte (suc i) h =
     ∙ sym (level-more (eventOf byte) (devicesIn image 0 (take i lines)) (deviceIn image i state))
     ∙ ap (levelOf (eventOf byte)) (sym more)
 
-served-take : (lines : List LineState) (n : ℕ) (b : Bool) → ltb (length lines) n ≡ b → take (cond b (length lines) n) lines ≡ take n lines
+pub served-take : (lines : List LineState) (n : ℕ) (b : Bool) → ltb (length lines) n ≡ b → take (cond b (length lines) n) lines ≡ take n lines
 served-take lines n true e =
     let h : length lines < n = ltb-true (length lines) n e in
     take-length lines ∙ sym (take-all n lines (omega arith))

@@ -6,3 +6,4 @@ pub mod Lines
 pub mod Parts
 pub mod Runs
 pub mod Shown
+pub mod States

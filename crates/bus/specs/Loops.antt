@@ -2,7 +2,7 @@
 -- made. Where the image is not refused and there is room this is what `Bus.antt` and `Run.antt` say (`proofs/Shown.antt`).
 use Prim.Native.Nat.{ℕ, zero, suc, _+_, _-_}
 use mathlib.Core.Bool.{Bool, true, false, cond, _&&_}
-use mathlib.Core.List.{List, [], _∷_, _++_}
+use mathlib.Core.List.{List, [], _∷_, _++_, map}
 use lib.ListN.{length, getD, set, take, drop}
 use lib.Dec.{ltb, leb}
 use Rattle.kind.specs.declared.Kind.the-variants.{Unknown}
@@ -95,6 +95,13 @@ turns byte level (suc i) s = turnAt byte level i (turns byte level i s)
 unfoldable pub filled : ℕ → LineState → List LineState → List LineState
 filled zero state lines = lines
 filled (suc i) state lines = set (filled i state lines) i state
+
+-- ---- the line states alone, where the image is only read
+
+-- after an event at a level; those past the entries stay as they were
+unfoldable pub statesAfter : List ℕ → List LineState → ℕ → Bool → List LineState
+statesAfter image lines byte level =
+    map (nextState (eventOf byte) level) (devicesIn image 0 (take (countOf image) lines)) ++ drop (countOf image) lines
 
 -- ---- a trace
 

@@ -14,7 +14,8 @@ ghost use Rattle.image.specs.Refusal.{someBelow};
 ghost use Rattle.bus.specs.Bus.{deviceOf, eventOf, nextState, nextBody};
 ghost use Rattle.bus.specs.Refusal.{someByte, badTrace, isEprom, badPulse, noRoom, runRefusal};
 ghost use Rattle.bus.specs.Run.{Leaves, runOf};
-ghost use Rattle.bus.specs.Loops.{placeOf, deviceAt, deviceIn, masterLevel, deviceLevel, turnState, turnImage, servedOf, levelOn, busState, turns, filled, runState, events};
+ghost use Rattle.bus.specs.Loops.{placeOf, deviceAt, deviceIn, masterLevel, deviceLevel, turnState, turnImage, servedOf, levelOn, statesAfter, busState, turns, filled, runState, events};
+ghost use Rattle.device.specs.Device.{waitingState};
 
 // An event on the line: a slot in which the master sends a bit, a reset, or a program pulse.
 pub enum Event {
@@ -111,6 +112,28 @@ fn level_with(image: &[u8], i: usize, state: LineState, byte: u8, level: bool) -
     let start = place.start;
     let end = place.end;
     device_level(byte, state, kind, &image[start..end])
+}
+
+// What an event at a level makes of a device's line state. The body is only read.
+fn device_state(byte: u8, level: bool, state: LineState, kind: Kind, body: &[u8]) -> LineState
+    ensures { λ r. ⌜ r ≡ nextState (eventOf byte) level (deviceOf kind (now (body .entry)) state) ⌝ }
+{
+    match event_of(byte) {
+        Event::Slot(_) => state.step(kind, body, level),
+        Event::Reset => LineState::at_reset(),
+        Event::Pulse => state.pulsed(kind, body),
+    }
+}
+
+// The same of device i, in the image.
+fn state_after(image: &[u8], i: usize, state: LineState, byte: u8, level: bool) -> LineState
+    ensures { λ r. ⌜ r ≡ turnState (now (image .entry)) i state byte level ⌝ }
+{
+    let place = place_of(image, i);
+    let kind = place.kind;
+    let start = place.start;
+    let end = place.end;
+    device_state(byte, level, state, kind, &image[start..end])
 }
 
 // What an event at a level makes of a device: its next line state, and its body. In a slot the device is given the level of the line.
@@ -274,6 +297,20 @@ pub fn level(image: &[u8], lines: &[LineState], byte: u8) -> bool
     level
 }
 
+// The line states after an event at a level, of any image and any line states. The image is only read.
+pub fn step_all(image: &[u8], lines: &mut [LineState], byte: u8, level: bool)
+    ensures { λ _. ⌜ now (lines .exit) ≡ statesAfter (now (image .entry)) (now (lines .entry)) byte level ⌝ }
+{
+    let n = served(image, lines.len());
+    let mut i: usize = 0;
+    while i < n {
+        let state = lines[i];
+        let next = state_after(image, i, state, byte, level);
+        lines[i] = next;
+        i = i + 1;
+    }
+}
+
 // Each of the first n devices, one after the other, at the level of the event. No device's part depends on another's turn.
 fn turn_all(image: &mut [u8], lines: &mut [LineState], n: usize, byte: u8, level: bool)
     requires { ⌜ n ≤ length (now lines) ⌝ }
@@ -298,6 +335,15 @@ fn fill(lines: &mut [LineState], n: usize, state: LineState)
         lines[i] = state;
         i = i + 1;
     }
+}
+
+// Every device of an image waits for a reset, of any image and any line states.
+pub fn wait_all(image: &[u8], lines: &mut [LineState])
+    ensures { λ _. ⌜ now (lines .exit) ≡ filled (servedOf (now (image .entry)) (length (now (lines .entry)))) waitingState (now (lines .entry)) ⌝ }
+{
+    let n = served(image, lines.len());
+    let waiting = LineState::waiting();
+    fill(lines, n, waiting);
 }
 
 // Every event of a trace on n devices: its level is answered, then each device is given it.

@@ -277,6 +277,15 @@ impl LineState {
         LineState::at_reset()
     }
 
+    // The line state after a program pulse.
+    pub fn pulsed(self, kind: Kind, body: &[u8]) -> LineState
+        ensures { λ r. ⌜ r ≡ pulseOf self kind (now (body .entry)) ⌝ }
+    {
+        LineState {
+            stage: stage_pulse(taken(self, kind, body)),
+        }
+    }
+
     // A program pulse: the line state after it; the body is left as it does.
     pub fn pulse(self, kind: Kind, body: &mut [u8]) -> LineState
         ensures { λ r. ⌜ (r ≡ pulseOf self kind (now (body .entry))) × (now (body .exit) ≡ programOf self kind (now (body .entry))) ⌝ }
