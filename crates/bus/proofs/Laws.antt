@@ -80,7 +80,7 @@ none-then : (b : Bool) (n x y z : ℕ) → 0 < n → cond b n y ≡ 0 → (y ≡
 none-then true n x y z m h k = absurd (omega arith)
 none-then false n x y z m h k = k h
 
-first-none : (cs ds : List Cause) → Numbered cs → firstOf cs ≡ 0 → firstOf (cs ++ ds) ≡ firstOf ds
+pub first-none : (cs ds : List Cause) → Numbered cs → firstOf cs ≡ 0 → firstOf (cs ++ ds) ≡ firstOf ds
 unfolding firstOf
 first-none [] ds n h = refl
 first-none (c ∷ cs) ds n h = none-then (c .applies) (c .number) (firstOf (cs ++ ds)) (firstOf cs) (firstOf ds) (n .0) h (first-none cs ds (n .1))

@@ -310,7 +310,7 @@ module _ (image : List ℕ) (known : Known image) where
   devices-length i [] = refl
   devices-length i (state ∷ states) = ap suc (devices-length (suc i) states)
 
-  devices-states : (i : ℕ) (states : List LineState) → statesOf (devicesFrom image i states) ≡ states
+  pub devices-states : (i : ℕ) (states : List LineState) → statesOf (devicesFrom image i states) ≡ states
   unfolding devicesFrom
   devices-states i [] = refl
   devices-states i (state ∷ states) = ap (λ (l : List LineState). state ∷ l) (devices-states (suc i) states)

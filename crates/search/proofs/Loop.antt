@@ -1,0 +1,275 @@
+-- The loop of `exchange`: the state after k exchanges, by recursion on k, and that after as many as the search has events it is the search's.
+-- Assumes nothing.
+use Prim.Native.Nat.{ℕ, zero, suc, _+_, _-_, _*_, _<_, _≤_}
+use mathlib.Core.Path.{_≡_, refl, sym, ap, subst, _∙_}
+use mathlib.Core.Bool.{Bool, true, false, not, cond, true≢false}
+use mathlib.Core.List.{List, [], _∷_, _++_, map}
+use native.Mathlib.Omega.{arith}
+use lib.ListN.{length, take, drop, set, replicate, length-append, length-set, length-drop, take-append-drop}
+use lib.Seq.{sets, sets-eq, length-sets, take-at, drop-at, drop-append-add, drop-drop}
+use lib.Dec.{eqb, ltb, leb}
+use borrow.Author.Tests.{lt-ltb, le-leb, ne-eqb}
+use Rattle.kind.specs.Kind.{bodySize}
+use Rattle.image.specs.Image.{countOf, kindAt, offsetAt, bodyAt}
+use Rattle.image.proofs.Accepted.{Known, accepted-known, inside}
+use Rattle.device.specs.declared.LineState.{LineState}
+use Rattle.device.specs.Device.{waitingState}
+use Rattle.bus.specs.Bus.{Device, deviceOf, eventOf, nextState, answerOf, runTrace}
+use Rattle.bus.specs.Bus as Bus
+use Rattle.bus.specs.Run.{devicesFrom, statesOf}
+use Rattle.bus.specs.Loops.{placeOf, deviceAt, deviceIn, devicesIn, levelOn, statesAfter}
+use Rattle.bus.proofs.Shown.{devices-states}
+use Rattle.bus.proofs.States.{states-length}
+use Rattle.master.specs.declared.Answer.{Answer}
+use Rattle.master.specs.declared.Master.{Master}
+use Rattle.master.specs.declared.Step.{Step}
+use Rattle.master.specs.Master as M
+use Rattle.master.specs.Master.{codeBytes, event, end, endNumber, said, says, fresh, nextOf, stepOf}
+use Rattle.master.specs.Drive.{codeCompleted, over, passEvents}
+use Rattle.master.proofs.Clock.{Reached, reached-started, started-passes, reached-on, completed-size}
+use Rattle.discovery.specs.Search.{Search, searchOf}
+use Rattle.discovery.specs.Searched.{Searched, eventsFor}
+use Rattle.discovery.proofs.Driven.{driven-stops, driven-devices}
+use Rattle.discovery.proofs.Demand.{searched}
+use Rattle.discovery.proofs.Going as G
+use Rattle.discovery.proofs.Going.{Going, going-start, going-end, going-room, going-on, linesAfter}
+use Rattle.search.specs.Refusal.{traceRoom}
+use Rattle.search.specs.Exchange.{hasEvent, eventIn, Ready}
+
+-- ---- the state
+
+pub record State : Type 0 where
+  pub step : Step
+  pub lines : List LineState
+  pub trace : List ℕ
+  pub codes : List ℕ
+
+abbrev pub state : Step → List LineState → List ℕ → List ℕ → State
+state step lines trace codes = record { step = step; lines = lines; trace = trace; codes = codes }
+
+module _ (image : List ℕ) where
+  -- the event of an exchange, and its level
+  abbrev pub sentIn : State → ℕ
+  sentIn s = eventIn (s .step .answer)
+
+  abbrev pub levelIn : State → Bool
+  levelIn s = levelOn image (s .lines) (sentIn s)
+
+  -- exchange k, at a level
+  abbrev pub exchangeWith : ℕ → State → Bool → State
+  exchangeWith k s level =
+      state (stepOf (s .step .next) (answerOf level))
+      (statesAfter image (s .lines) (sentIn s) level)
+      (set (s .trace) k (sentIn s))
+      (sets (s .codes) (codeBytes * s .step .next .passes) (codeCompleted (s .step .next .passes) (nextOf (s .step .next) (answerOf level))))
+
+  unfoldable pub exchanges : ℕ → State → State
+  exchanges zero s = s
+  exchanges (suc k) s = exchangeWith k (exchanges k s) (levelIn (exchanges k s))
+
+  pub lines-length : (k : ℕ) (s : State) → length (exchanges k s .lines) ≡ length (s .lines)
+  unfolding exchanges
+  lines-length zero s = refl
+  lines-length (suc k) s = states-length image (exchanges k s .lines) (sentIn (exchanges k s)) (levelIn (exchanges k s)) ∙ lines-length k s
+
+  pub trace-length : (k : ℕ) (s : State) → length (exchanges k s .trace) ≡ length (s .trace)
+  unfolding exchanges
+  trace-length zero s = refl
+  trace-length (suc k) s = length-set (exchanges k s .trace) k _ ∙ trace-length k s
+
+  pub codes-length : (k : ℕ) (s : State) → length (exchanges k s .codes) ≡ length (s .codes)
+  unfolding exchanges
+  codes-length zero s = refl
+  codes-length (suc k) s =
+      let before = exchanges k s in
+      let m = before .step .next in
+      length-sets (before .codes) (codeBytes * m .passes) (codeCompleted (m .passes) (nextOf m (answerOf (levelIn before)))) ∙ codes-length k s
+
+  -- ---- the devices of an accepted image
+
+  place-cut : (o size : ℕ) → o + size - o ≡ size
+  place-cut o size = omega arith
+
+  device-same : (known : Known image) (i : ℕ) (s : LineState) → i < countOf image → deviceIn image i s ≡ deviceOf (kindAt image i) (bodyAt image i) s
+  unfolding deviceIn deviceAt placeOf
+  device-same known i s h =
+      let o = offsetAt image i in
+      let size = bodySize (kindAt image i) in
+      rw (lt-ltb i (countOf image) h, le-leb (o + size) (length image) (inside image known i h))
+      (ap (λ (m : ℕ). deviceOf (kindAt image i) (take m (drop o image)) s) (place-cut o size))
+
+  devices-same : (known : Known image) (i : ℕ) (states : List LineState) → i + length states ≤ countOf image → devicesIn image i states ≡ devicesFrom image i states
+  unfolding devicesIn devicesFrom
+  devices-same known i [] h = refl
+  devices-same known i (s ∷ states) h =
+      let rest = devices-same known (suc i) states (omega arith) in
+      let one = device-same known i s (omega arith) in
+      λ j. one j ∷ rest j
+
+-- ---- bytes at the front of a buffer, and bytes after them
+over-more : (xs vs buffer : List ℕ) → length (xs ++ vs) ≤ length buffer → sets (over xs buffer) (length xs) vs ≡ over (xs ++ vs) buffer
+over-more xs vs buffer h =
+    let l = over xs buffer in
+    let all = length-append xs vs in
+    let size : length l ≡ length buffer = length-append xs (drop (length xs) buffer) ∙ (let d = length-drop (length xs) buffer in omega arith) in
+    let room : length xs + length vs ≤ length l = omega arith in
+    sets-eq vs l (length xs) room
+    ∙ ap (λ (r : List ℕ). r ++ vs ++ drop (length xs + length vs) l) (take-at xs (drop (length xs) buffer) (length xs) refl)
+    ∙ ap (λ (r : List ℕ). xs ++ vs ++ r) (drop-append-add xs (drop (length xs) buffer) (length vs) ∙ drop-drop (length vs) (length xs) buffer)
+    ∙ ap (λ (m : ℕ). (xs ++ vs) ++ drop m buffer) (sym all)
+
+-- ---- what an answer says
+event-said : (a : Answer) → hasEvent a ≡ true → said a ≡ event (eventIn a)
+unfolding hasEvent eventIn said
+event-said (Answer.Event e) h = refl
+event-said (Answer.End x) h = absurd (true≢false (sym h))
+
+end-said : (a : Answer) → hasEvent a ≡ false → (x : ℕ) × (said a ≡ end x)
+unfolding hasEvent said
+end-said (Answer.Event e) h = absurd (true≢false h)
+end-said (Answer.End x) h = (endNumber x, refl)
+
+room-is : (n : ℕ) → traceRoom n ≡ eventsFor n
+unfolding traceRoom
+room-is zero = refl
+room-is (suc n) = ap (λ (b : Bool). cond b 1 (passEvents * suc n)) (ne-eqb (suc n) 0 (λ z. absurd (omega arith)))
+
+-- ---- the loop
+module _ (image codes₀ trace₀ : List ℕ) (lines₀ : List LineState) (ready : Ready image codes₀ trace₀ lines₀) where
+  abbrev n : ℕ
+  n = countOf image
+
+  abbrev S : Search
+  S = searchOf image
+
+  abbrev pub N : ℕ
+  N = length (S .trace)
+
+  demand : Searched image S
+  demand = searched image (ready .bytes) (ready .accepted)
+
+  abbrev pub start : State
+  start = state (stepOf fresh 0) lines₀ trace₀ codes₀
+
+  record Doing (k : ℕ) (s : State) : Type 0 where
+    pub at : List LineState
+    pub sent : List ℕ
+    pub found : List ℕ
+    pub going : Going image (s .step .next) at sent found
+    pub answered : s .step .answer ≡ M.answerOf (s .step .next .stage)
+    pub reached : Reached (s .step .next) k
+    pub count : length sent ≡ k
+    pub sized : length found ≡ codeBytes * s .step .next .passes
+    pub traced : s .trace ≡ over sent trace₀
+    pub stored : s .codes ≡ over found codes₀
+    pub lined : s .lines ≡ at ++ drop n lines₀
+
+  doing-start : Doing 0 start
+  doing-start = record {
+    at = replicate n waitingState;
+    sent = [];
+    found = [];
+    going = going-start image (ready .bytes) (ready .accepted);
+    answered = refl;
+    reached = reached-started;
+    count = refl;
+    sized = rw started-passes;
+    traced = refl;
+    stored = refl;
+    lined = sym (take-append-drop n lines₀) ∙ ap (λ (l : List LineState). l ++ drop n lines₀) (ready .waiting);
+  }
+
+  module _ {k : ℕ} {s : State} (d : Doing k s) where
+    said-is : says (s .step .next) ≡ said (s .step .answer)
+    said-is = ap said (sym (d .answered))
+
+    -- at an end all is done
+    at-end : hasEvent (s .step .answer) ≡ false → (d .sent ≡ S .trace) × (d .found ≡ S .codes) × (d .at ≡ statesOf (S .devices))
+    unfolding runTrace
+    at-end h =
+        let x = end-said (s .step .answer) h in
+        let g = going-end image demand (x .0) (d .going) (said-is ∙ x .1) in
+        let t = driven-stops (x .0) (d .going .driven) (said-is ∙ x .1) .0 in
+        let ds : devicesFrom image 0 (d .at) ≡ S .devices = ap (λ (l : List ℕ). runTrace l (devicesFrom image 0 (d .at)) .devices) (sym t) ∙ driven-devices (d .going .driven) in
+        (g .2, g .3, sym (devices-states image (accepted-known image (ready .accepted)) 0 (d .at)) ∙ ap statesOf ds)
+
+    sends : hasEvent (s .step .answer) ≡ true → says (s .step .next) ≡ event (sentIn image s)
+    sends h = said-is ∙ event-said (s .step .answer) h
+
+    -- before the last event it sends, and after it it does not
+    must : (b : Bool) → hasEvent (s .step .answer) ≡ b → k < N → b ≡ true
+    must true h small = refl
+    must false h small = let e = sym (d .count) ∙ ap length (at-end h .0) in absurd (omega arith)
+
+    cannot : (b : Bool) → hasEvent (s .step .answer) ≡ b → N ≤ k → b ≡ false
+    cannot true h big = let r = going-room image demand (sentIn image s) (d .going) (sends h) in let e = d .count in absurd (omega arith)
+    cannot false h big = refl
+
+    -- the bus of the code is the bus of the search
+    taken : take n (s .lines) ≡ d .at
+    taken = ap (take n) (d .lined) ∙ take-at (d .at) (drop n lines₀) n (d .going .each)
+
+    devices : devicesIn image 0 (take n (s .lines)) ≡ devicesFrom image 0 (d .at)
+    devices = ap (devicesIn image 0) taken ∙ devices-same image (accepted-known image (ready .accepted)) 0 (d .at) (let e = d .going .each in omega arith)
+
+    level-same : (e : ℕ) → levelOn image (s .lines) e ≡ G.levelOn image (d .at) e
+    unfolding levelOn
+    level-same e = ap (Bus.levelOf (eventOf e)) devices
+
+    lines-same : (e : ℕ) → statesAfter image (s .lines) e (G.levelOn image (d .at) e) ≡ linesAfter image (d .at) e ++ drop n lines₀
+    unfolding statesAfter
+    lines-same e =
+        ap (λ (ds : List Device). map (nextState (eventOf e) (G.levelOn image (d .at) e)) ds ++ drop n (s .lines)) devices
+        ∙ ap (λ (l : List LineState). linesAfter image (d .at) e ++ l) (ap (drop n) (d .lined) ∙ drop-at (d .at) (drop n lines₀) n (d .going .each))
+
+    doing-next : hasEvent (s .step .answer) ≡ true → Doing (suc k) (exchangeWith image k s (levelIn image s))
+    doing-next h =
+        let e = sentIn image s in
+        let m = s .step .next in
+        let level = G.levelOn image (d .at) e in
+        let code = codeCompleted (m .passes) (nextOf m (answerOf level)) in
+        let g = going-on image demand e (d .going) (sends h) in
+        let few = going-room image demand e (d .going) (sends h) in
+        let cs = length-append (d .found) code in
+        let ts = length-append (d .sent) (e ∷ []) in
+        let whole : length ((d .found ++ code) ++ g .found) ≡ codeBytes * n = ap length (g .written) ∙ demand .size in
+        let parts = length-append (d .found ++ code) (g .found) in
+        let code-fits : length (d .found ++ code) ≤ length codes₀ = let r = ready .code-room in omega arith in
+        let trace-fits : length (d .sent ++ e ∷ []) ≤ length trace₀ = let r = ready .trace-room in let z = room-is n in let y = demand .events in omega arith in
+        let grown = completed-size (d .reached) (not (eqb (answerOf level) 0)) in
+        subst (λ (b : Bool). Doing (suc k) (exchangeWith image k s b)) (sym (level-same e)) (record {
+          at = linesAfter image (d .at) e;
+          sent = d .sent ++ e ∷ [];
+          found = d .found ++ code;
+          going = g;
+          answered = refl;
+          reached = reached-on (d .reached) (not (eqb (answerOf level) 0));
+          count = let c = d .count in omega arith;
+          sized = let z = d .sized in omega arith;
+          traced = ap (λ (j : ℕ). set (s .trace) j e) (sym (d .count)) ∙ ap (λ (l : List ℕ). set l (length (d .sent)) e) (d .traced) ∙ over-more (d .sent) (e ∷ []) trace₀ trace-fits;
+          stored = ap (λ (j : ℕ). sets (s .codes) j code) (sym (d .sized)) ∙ ap (λ (l : List ℕ). sets l (length (d .found)) code) (d .stored) ∙ over-more (d .found) code codes₀ code-fits;
+          lined = lines-same e;
+        })
+
+  doing : (k : ℕ) → k ≤ N → Doing k (exchanges image k start)
+  unfolding exchanges
+  doing zero h = doing-start
+  doing (suc k) h = let d = doing k (omega arith) in doing-next d (must d (hasEvent (exchanges image k start .step .answer)) refl h)
+
+  pub goes : (k : ℕ) → k < N → hasEvent (exchanges image k start .step .answer) ≡ true
+  goes k h = must (doing k (omega arith)) (hasEvent (exchanges image k start .step .answer)) refl h
+
+  pub stops : hasEvent (exchanges image N start .step .answer) ≡ false
+  stops = cannot (doing N (omega arith)) (hasEvent (exchanges image N start .step .answer)) refl (omega arith)
+
+  pub codes-done : exchanges image N start .codes ≡ over (S .codes) codes₀
+  codes-done = let d = doing N (omega arith) in d .stored ∙ ap (λ (l : List ℕ). over l codes₀) (at-end d stops .1)
+
+  pub trace-done : exchanges image N start .trace ≡ over (S .trace) trace₀
+  trace-done = let d = doing N (omega arith) in d .traced ∙ ap (λ (l : List ℕ). over l trace₀) (at-end d stops .0)
+
+  pub lines-done : exchanges image N start .lines ≡ statesOf (S .devices) ++ drop n lines₀
+  lines-done = let d = doing N (omega arith) in d .lined ∙ ap (λ (l : List LineState). l ++ drop n lines₀) (at-end d stops .2)
+
+  pub fits : N ≤ length trace₀
+  fits = let r = ready .trace-room in let z = room-is n in let y = demand .events in omega arith

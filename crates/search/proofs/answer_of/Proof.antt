@@ -1,0 +1,14 @@
+use Rattle.bus.specs.Bus.{answerOf}
+use Rattle.search.proofs.answer_of.Statement.{statement}
+use Rattle.search.proofs.answer_of.Tie as tie
+
+returns : tie.Need-returns
+unfolding answerOf
+returns c = simp (c .if1 .taken)
+
+returns-2 : tie.Need-returns-2
+unfolding answerOf
+returns-2 c = simp (c .if1 .left)
+
+pub answer-of-spec : {M : Type 1} → statement M
+answer-of-spec = tie.close (tie.spec returns returns-2)

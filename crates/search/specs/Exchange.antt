@@ -1,0 +1,33 @@
+-- What the functions of `src/` below `search` do and ask.
+use Prim.Native.Nat.{ℕ, _*_, _≤_}
+use mathlib.Core.Path.{_≡_}
+use mathlib.Core.Bool.{Bool, true, false}
+use mathlib.Core.List.{List}
+use lib.ListN.{length, take, replicate}
+use Rattle.image.specs.Image.{countOf}
+use Rattle.image.specs.Refusal.{imageRefusal}
+use Rattle.device.specs.declared.LineState.{LineState}
+use Rattle.device.specs.Device.{waitingState}
+use Rattle.master.specs.declared.Answer.{Answer}
+use Rattle.master.specs.Master.{codeBytes, reset}
+use Rattle.discovery.specs.Words.{Bytes}
+use Rattle.search.specs.Refusal.{traceRoom}
+
+-- a step's answer is an event or the end
+unfoldable pub hasEvent : Answer → Bool
+hasEvent (Answer.Event event) = true
+hasEvent (Answer.End e) = false
+
+-- the event; where there is none, a reset
+unfoldable pub eventIn : Answer → ℕ
+eventIn (Answer.Event event) = event
+eventIn (Answer.End e) = reset
+
+-- what the exchanges ask: an image that is not refused, room, and every device waiting
+pub record Ready (image codes trace : List ℕ) (lines : List LineState) : Type 0 where
+  pub bytes : Bytes image
+  pub accepted : imageRefusal image ≡ 0
+  pub code-room : codeBytes * countOf image ≤ length codes
+  pub trace-room : traceRoom (countOf image) ≤ length trace
+  pub line-room : countOf image ≤ length lines
+  pub waiting : take (countOf image) lines ≡ replicate (countOf image) waitingState

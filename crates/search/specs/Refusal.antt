@@ -1,0 +1,24 @@
+-- Document 01, 'Refusals in order': the causes of a search, each over the whole input: the image's, and 7.
+use Prim.Native.Nat.{ℕ, _*_}
+use mathlib.Core.Bool.{Bool, cond, _||_}
+use mathlib.Core.List.{List, [], _∷_, _++_}
+use lib.Dec.{eqb, ltb}
+use Rattle.image.specs.Image.{countOf}
+use Rattle.image.specs.Refusal.{Cause, cause, firstOf, imageCauses}
+use Rattle.master.specs.Master.{codeBytes}
+use Rattle.master.specs.Drive.{passEvents}
+
+-- 201n, at least 1
+unfoldable pub traceRoom : ℕ → ℕ
+traceRoom n = cond (eqb n 0) 1 (passEvents * n)
+
+-- 7: code room under 8n or trace room under 201n, at least 1; with lent line states, fewer than n
+unfoldable pub noRoom : List ℕ → ℕ → ℕ → ℕ → Bool
+noRoom image codes trace lines = ltb codes (codeBytes * countOf image) || ltb trace (traceRoom (countOf image)) || ltb lines (countOf image)
+
+-- the lowest number wins
+unfoldable pub searchCauses : List ℕ → ℕ → ℕ → ℕ → List Cause
+searchCauses image codes trace lines = imageCauses image ++ cause 7 (noRoom image codes trace lines) ∷ []
+
+unfoldable pub searchRefusal : List ℕ → ℕ → ℕ → ℕ → ℕ
+searchRefusal image codes trace lines = firstOf (searchCauses image codes trace lines)

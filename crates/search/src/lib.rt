@@ -1,0 +1,255 @@
+// The search: the searching master, stepped with the levels of the bus and nothing else.
+//
+// The image is only read. The loop over the exchanges sends what the master answers to the devices, and gives the level that they answer to
+// the master's next step; what is written and stored between is a function by value over the buffers.
+use device::LineState;
+use master::{Answer, Master, Step};
+ghost use mathlib.Core.Path.{_≡_};
+ghost use Prim.Native.Nat.{_≤_, _<_, _+_, _*_};
+ghost use mathlib.Core.Bool.{cond, _&&_};
+ghost use mathlib.Core.List.{_++_};
+ghost use lib.ListN.{length, take, drop, set, getD};
+ghost use lib.Seq.{sets};
+ghost use Rattle.image.specs.Image.{countOf};
+ghost use Rattle.master.specs.Master.{codeBytes, fresh, nextOf, stepOf};
+ghost use Rattle.master.specs.Drive.{codeCompleted, over};
+ghost use Rattle.bus.specs.Bus.{answerOf};
+ghost use Rattle.bus.specs.Run.{statesOf};
+ghost use Rattle.discovery.specs.Search.{searchOf};
+ghost use Rattle.discovery.specs.Searched.{Searched};
+ghost use Rattle.discovery.specs.Words.{Bytes, isReset, slotNext, resetsIn, slotsIn, passesIn};
+ghost use Rattle.search.specs.Refusal.{traceRoom, noRoom, searchRefusal};
+ghost use Rattle.search.specs.Found.{foundIn, Leaves, searchedOf};
+ghost use Rattle.search.specs.Exchange.{hasEvent, eventIn, Ready};
+
+// What a search gives back beside its buffers.
+pub struct Found {
+    // 0: the search is not refused.
+    pub number: u32,
+    // Counted in the trace that it wrote.
+    pub passes: u64,
+    pub resets: u64,
+    pub slots: u64,
+}
+
+// The number of a search that is not refused.
+const ACCEPTED: u32 = 0;
+
+// The event of a reset; a slot is a lower one.
+const RESET: u8 = 2;
+
+// The events of a pass, and the bytes of a code.
+const PASS_EVENTS: usize = 201;
+
+const CODE_BYTES: usize = 8;
+
+// ---- why a search is refused
+
+fn wide(byte: u8) -> usize
+    ensures { λ r. ⌜ r ≡ byte ⌝ }
+{
+    byte as usize
+}
+
+// The events of a search of n devices.
+fn trace_room(n: u8) -> usize
+    ensures { λ r. ⌜ r ≡ traceRoom n ⌝ }
+{
+    if n == 0 {
+        return 1;
+    }
+    PASS_EVENTS * wide(n)
+}
+
+// Cause 7.
+fn lacks_room(image: &[u8], codes: usize, trace: usize, lines: usize) -> bool
+    ensures { λ r. ⌜ r ≡ noRoom (now (image .entry)) codes trace lines ⌝ }
+{
+    let n = image::count(image);
+    if codes < CODE_BYTES * wide(n) {
+        return true;
+    }
+    if trace < trace_room(n) {
+        return true;
+    }
+    lines < wide(n)
+}
+
+// Why a search is refused, 1 to 4 or 7; 0 where it is not. The image is bytes, as every slice of bytes is.
+fn refusal(image: &[u8], codes: usize, trace: usize, lines: usize) -> u32
+    ensures { λ r. ⌜ (r ≡ searchRefusal (now (image .entry)) codes trace lines) × Bytes (now (image .entry)) ⌝ }
+{
+    let number = image::refusal(image);
+    if number != ACCEPTED {
+        return number;
+    }
+    if lacks_room(image, codes, trace, lines) {
+        return 7;
+    }
+    ACCEPTED
+}
+
+// ---- one exchange
+
+// The master's first step: whatever its level, it answers the reset.
+fn first_step() -> Step
+    ensures { λ r. ⌜ r ≡ stepOf fresh 0 ⌝ }
+{
+    Master::fresh().step(0)
+}
+
+// Whether a step answered an event, and not the end.
+fn has_event(step: Step) -> bool
+    ensures { λ r. ⌜ r ≡ hasEvent (step .answer) ⌝ }
+{
+    let answer = step.answer;
+    match answer {
+        Answer::Event(_) => true,
+        Answer::End(_) => false,
+    }
+}
+
+// The event that a step answered; at the end there is none to send, and it is a reset.
+fn event_in(step: Step) -> u8
+    ensures { λ r. ⌜ r ≡ eventIn (step .answer) ⌝ }
+{
+    let answer = step.answer;
+    match answer {
+        Answer::Event(event) => event,
+        Answer::End(_) => RESET,
+    }
+}
+
+// A level as a byte.
+fn answer_of(level: bool) -> u8
+    ensures { λ r. ⌜ r ≡ answerOf level ⌝ }
+{
+    if level { 1 } else { 0 }
+}
+
+// Writes an event that was sent, gives its level to the master, and stores the code that this step completed, if it completed one.
+fn next_step(codes: &mut [u8], trace: &mut [u8], sent: usize, step: Step, event: u8, level: bool) -> Step
+    ensures { λ r. ⌜ (r ≡ stepOf (step .next) (answerOf level))
+        × (now (codes .exit) ≡ sets (now (codes .entry)) (codeBytes * step .next .passes) (codeCompleted (step .next .passes) (nextOf (step .next) (answerOf level))))
+        × (now (trace .exit) ≡ set (now (trace .entry)) sent event) ⌝ }
+{
+    bits::put_byte(trace, sent, event);
+    let master = step.next;
+    let completed = master.passes;
+    let given = answer_of(level);
+    let step = master.step(given);
+    let next = step.next;
+    master::keep_code(codes, completed, next);
+    step
+}
+
+// ---- counts
+
+fn one_if(yes: bool) -> u64
+    ensures { λ r. ⌜ (r ≡ cond yes 1 0) × (r ≤ 1) ⌝ }
+{
+    if yes { 1 } else { 0 }
+}
+
+fn resets_in(trace: &[u8]) -> u64
+    ensures { λ r. ⌜ r ≡ resetsIn (now (trace .entry)) ⌝ }
+{
+    let mut count: u64 = 0;
+    let mut i = 0;
+    while i < trace.len() {
+        count = count + one_if(trace[i] == RESET);
+        i += 1;
+    }
+    count
+}
+
+fn slots_in(trace: &[u8]) -> u64
+    ensures { λ r. ⌜ r ≡ slotsIn (now (trace .entry)) ⌝ }
+{
+    let mut count: u64 = 0;
+    let mut i = 0;
+    while i < trace.len() {
+        count = count + one_if(trace[i] < RESET);
+        i += 1;
+    }
+    count
+}
+
+// A reset with a slot right after it.
+fn begins_pass(trace: &[u8], i: usize) -> bool
+    requires { ⌜ i < length (now trace) ⌝ }
+    ensures { λ r. ⌜ r ≡ (isReset (getD (now (trace .entry)) i 0) && slotNext (drop (i + 1) (now (trace .entry)))) ⌝ }
+{
+    if trace[i] != RESET {
+        return false;
+    }
+    if i + 1 < trace.len() {
+        return trace[i + 1] < RESET;
+    }
+    false
+}
+
+fn passes_in(trace: &[u8]) -> u64
+    ensures { λ r. ⌜ r ≡ passesIn (now (trace .entry)) ⌝ }
+{
+    let mut count: u64 = 0;
+    let mut i = 0;
+    while i < trace.len() {
+        count = count + one_if(begins_pass(trace, i));
+        i += 1;
+    }
+    count
+}
+
+// The number, and the counts of the events that were sent: the first so many of the trace.
+fn tally(number: u32, trace: &[u8], sent: usize) -> Found
+    requires { ⌜ sent ≤ length (now trace) ⌝ }
+    ensures { λ r. ⌜ r ≡ foundIn number (take sent (now (trace .entry))) ⌝ }
+{
+    let passes = passes_in(&trace[0..sent]);
+    let resets = resets_in(&trace[0..sent]);
+    let slots = slots_in(&trace[0..sent]);
+    Found {
+        number,
+        passes,
+        resets,
+        slots,
+    }
+}
+
+// ---- the search
+
+// The exchanges of an image that is not refused, on devices that wait: each event goes to the devices as the one before left them, and the
+// level that they answer to the master's next step. Gives the number of events.
+fn exchange(image: &[u8], codes: &mut [u8], trace: &mut [u8], lines: &mut [LineState]) -> usize
+    requires { ⌜ Ready (now image) (now codes) (now trace) (now lines) ⌝ }
+    ensures { λ r. ⌜ (r ≡ length (searchOf (now (image .entry)) .trace))
+        × (now (codes .exit) ≡ over (searchOf (now (image .entry)) .codes) (now (codes .entry)))
+        × (now (trace .exit) ≡ over (searchOf (now (image .entry)) .trace) (now (trace .entry)))
+        × (now (lines .exit) ≡ statesOf (searchOf (now (image .entry)) .devices) ++ drop (countOf (now (image .entry))) (now (lines .entry))) ⌝ }
+{
+    let mut step = first_step();
+    let mut sent: usize = 0;
+    while has_event(step) {
+        let event = event_in(step);
+        let level = bus::level(image, lines, event);
+        bus::step_all(image, lines, event, level);
+        step = next_step(codes, trace, sent, step, event, level);
+        sent = sent + 1;
+    }
+    sent
+}
+
+// The search. What is refused changes nothing; else every device starts waiting, whatever the line states held.
+pub fn search(image: &[u8], codes: &mut [u8], trace: &mut [u8], lines: &mut [LineState]) -> Found
+    ensures { λ r. ⌜ Leaves (searchedOf (now (image .entry)) (now (codes .entry)) (now (trace .entry)) (now (lines .entry))) r (now (codes .exit)) (now (trace .exit)) (now (lines .exit))
+        × (r .number ≡ 0 → Searched (now (image .entry)) (searchOf (now (image .entry)))) ⌝ }
+{
+    let number = refusal(image, codes.len(), trace.len(), lines.len());
+    let mut sent: usize = 0;
+    if number == ACCEPTED {
+        bus::wait_all(image, lines);
+        sent = exchange(image, codes, trace, lines);
+    }
+    tally(number, trace, sent)
+}
