@@ -100,7 +100,7 @@ pub record Admitted (image trace : List ℕ) (answers lines : ℕ) : Type 0 wher
   pub answers-room : length trace ≤ answers
   pub lines-room : countOf image ≤ lines
 
-none-first : (cs ds : List Cause) → firstOf (cs ++ ds) ≡ 0 → firstOf cs ≡ 0
+pub none-first : (cs ds : List Cause) → firstOf (cs ++ ds) ≡ 0 → firstOf cs ≡ 0
 unfolding firstOf
 none-first [] ds h = refl
 none-first (c ∷ cs) ds h = pick (c .applies) (c .number) (firstOf (cs ++ ds)) (firstOf cs) h (none-first cs ds)

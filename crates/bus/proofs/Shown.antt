@@ -348,7 +348,7 @@ module _ (image : List ℕ) (known : Known image) where
 
 -- ---- the run
 
-filled-is : (i : ℕ) (state : LineState) (lines : List LineState) → i ≤ length lines → filled i state lines ≡ replicate i state ++ drop i lines
+pub filled-is : (i : ℕ) (state : LineState) (lines : List LineState) → i ≤ length lines → filled i state lines ≡ replicate i state ++ drop i lines
 unfolding filled
 filled-is zero state lines h = refl
 filled-is (suc i) state lines h =

@@ -3,7 +3,9 @@
 // The image is only read. The loop over the exchanges sends what the master answers to the devices, and gives the level that they answer to
 // the master's next step; what is written and stored between is a function by value over the buffers.
 use device::LineState;
-use master::{Answer, Master, Step};
+use master::Answer;
+use master::Master;
+use master::Step;
 ghost use mathlib.Core.Path.{_≡_};
 ghost use Prim.Native.Nat.{_≤_, _<_, _+_, _*_};
 ghost use mathlib.Core.Bool.{cond, _&&_};
@@ -128,7 +130,14 @@ fn answer_of(level: bool) -> u8
 }
 
 // Writes an event that was sent, gives its level to the master, and stores the code that this step completed, if it completed one.
-fn next_step(codes: &mut [u8], trace: &mut [u8], sent: usize, step: Step, event: u8, level: bool) -> Step
+fn next_step(
+    codes: &mut [u8],
+    trace: &mut [u8],
+    sent: usize,
+    step: Step,
+    event: u8,
+    level: bool,
+) -> Step
     ensures { λ r. ⌜ (r ≡ stepOf (step .next) (answerOf level))
         × (now (codes .exit) ≡ sets (now (codes .entry)) (codeBytes * step .next .passes) (codeCompleted (step .next .passes) (nextOf (step .next) (answerOf level))))
         × (now (trace .exit) ≡ set (now (trace .entry)) sent event) ⌝ }

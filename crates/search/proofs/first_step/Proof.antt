@@ -12,7 +12,7 @@ step-requires c κs = search needs
 
 returns : tie.Need-returns
 unfolding stepOf fresh
-returns c = simp (c .step .ensures .0, c .step .ensures .1, c .before .fresh .ensures)
+returns c = simp (c .step .ensures .0, c .before .fresh .ensures)
 
 pub first-step-spec : {M : Type 1} → statement M
 first-step-spec = tie.close (tie.spec fresh-requires step-requires returns)

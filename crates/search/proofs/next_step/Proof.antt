@@ -26,7 +26,7 @@ same-length-2 c = search needs
 
 returns : tie.Need-returns
 unfolding answerOf stepOf sent codeCompleted
-returns c = simp (c .before .before .keep-code .ensures, c .before .before .before .before .before .step .ensures .0, c .before .before .before .before .before .step .ensures .1, c .before .before .before .before .before .before .answer-of .ensures, c .before .before .before .before .before .before .before .before .before .before .put-byte .ensures) (refl, refl, refl)
+returns c = simp (c .before .before .keep-code .ensures, c .before .before .before .before .before .step .ensures .0, c .before .before .before .before .before .before .answer-of .ensures, c .before .before .before .before .before .before .before .before .before .before .put-byte .ensures) (refl, refl, refl)
 
 pub next-step-spec : {M : Type 1} → statement M
 next-step-spec =

@@ -19,16 +19,14 @@ lacks-room-requires c κs = search needs
 
 returns-2 : tie.Need-returns-2
 returns-2 c =
-    let a = c .before .before .before .before .before .args in
-    (
+    let a = c .before .before .before .before .before .args in (
       simp (room-decides (a .image .now) (a .codes) (a .trace) (a .lines) (sym (c .before .before .before .refusal .ensures) ∙ c .before .before .if1 .left), sym (c .before .lacks-room .ensures) ∙ c .if2 .taken),
       λ k. c .before .before .before .before .shared-slice-known .given k .fits,
     )
 
 returns-3 : tie.Need-returns-3
 returns-3 c =
-    let a = c .before .before .before .before .before .args in
-    (
+    let a = c .before .before .before .before .before .args in (
       simp (room-decides (a .image .now) (a .codes) (a .trace) (a .lines) (sym (c .before .before .before .refusal .ensures) ∙ c .before .before .if1 .left), sym (c .before .lacks-room .ensures) ∙ c .if2 .left),
       λ k. c .before .before .before .before .shared-slice-known .given k .fits,
     )

@@ -1,0 +1,119 @@
+-- What the walk of `search` leaves is what its contract says. Assumes nothing.
+use Prim.Native.Nat.{ℕ, zero, suc, _*_, _≤_}
+use mathlib.Core.Path.{_≡_, refl, sym, ap, subst, _∙_}
+use mathlib.Core.Bool.{Bool, true, false, not, cond, _||_, true≢false}
+use mathlib.Core.List.{List, [], _∷_, _++_}
+use native.Mathlib.Omega.{arith}
+use lib.ListN.{length, take, drop, replicate, length-replicate}
+use lib.Seq.{take-at, drop-at}
+use lib.Dec.{T, eqb, ltb}
+use borrow.Author.Tests.{ltb-false, le-ltb}
+use Rattle.image.specs.Image.{countOf}
+use Rattle.image.specs.Refusal.{cause, firstOf, imageCauses, imageRefusal}
+use Rattle.device.specs.declared.LineState.{LineState}
+use Rattle.device.specs.Device.{waitingState}
+use Rattle.master.specs.Master.{codeBytes}
+use Rattle.master.specs.Drive.{over}
+use Rattle.bus.specs.Run.{statesOf}
+use Rattle.bus.specs.Loops.{servedOf, filled}
+use Rattle.bus.proofs.Laws.{none-first, filled-length}
+use Rattle.bus.proofs.Shown.{filled-is}
+use Rattle.discovery.specs.Search.{Search, searchOf}
+use Rattle.discovery.specs.Searched.{Searched}
+use Rattle.discovery.specs.Words.{Bytes}
+use Rattle.discovery.proofs.Demand.{searched}
+use Rattle.search.specs.declared.Found.{Found}
+use Rattle.search.specs.Refusal.{traceRoom, noRoom, searchCauses, searchRefusal}
+use Rattle.search.specs.Found.{foundIn, Outcome, outcome, Leaves, leftBy, searchedAt, searchedOf}
+use Rattle.search.specs.Exchange.{Ready}
+use Rattle.search.proofs.Counts.{room-decides}
+
+-- ---- what is not refused
+
+neither : (a b : Bool) → (a || b) ≡ false → (a ≡ false) × (b ≡ false)
+neither true b e = absurd (true≢false e)
+neither false b e = (refl, e)
+
+clear : (a : Bool) → _≡_ {A = ℕ} (cond a 7 0) 0 → a ≡ false
+clear true e = absurd (omega arith)
+clear false e = refl
+
+module _ (image codes trace : List ℕ) (lines : List LineState) where
+  abbrev number : ℕ
+  number = searchRefusal image (length codes) (length trace) (length lines)
+
+  abbrev n : ℕ
+  n = countOf image
+
+  -- the line states as they start
+  abbrev pub begun : List LineState
+  begun = filled (servedOf image (length lines)) waitingState lines
+
+  accepted : number ≡ 0 → imageRefusal image ≡ 0
+  unfolding searchRefusal searchCauses imageRefusal
+  accepted e = none-first (imageCauses image) (cause 7 (noRoom image (length codes) (length trace) (length lines)) ∷ []) e
+
+  room : number ≡ 0 → (codeBytes * n ≤ length codes) × (traceRoom n ≤ length trace) × (n ≤ length lines)
+  unfolding noRoom
+  room e =
+      let none = clear (noRoom image (length codes) (length trace) (length lines)) (sym (room-decides image (length codes) (length trace) (length lines) (accepted e)) ∙ e) in
+      let first = neither (ltb (length codes) (codeBytes * n) || ltb (length trace) (traceRoom n)) (ltb (length lines) n) none in
+      let second = neither (ltb (length codes) (codeBytes * n)) (ltb (length trace) (traceRoom n)) (first .0) in
+      (ltb-false (length codes) (codeBytes * n) (second .0), ltb-false (length trace) (traceRoom n) (second .1), ltb-false (length lines) n (first .1))
+
+  begun-is : number ≡ 0 → begun ≡ replicate n waitingState ++ drop n lines
+  unfolding servedOf
+  begun-is e =
+      let served : servedOf image (length lines) ≡ n = rw (le-ltb (length lines) n (room e .2)) in
+      ap (λ (m : ℕ). filled m waitingState lines) served ∙ filled-is n waitingState lines (room e .2)
+
+  pub begun-length : length begun ≡ length lines
+  begun-length = filled-length (servedOf image (length lines)) waitingState lines
+
+  pub ready : Bytes image → number ≡ 0 → Ready image codes trace begun
+  ready bytes e = record {
+    bytes = bytes;
+    accepted = accepted e;
+    code-room = room e .0;
+    trace-room = room e .1;
+    line-room = subst (λ (m : ℕ). n ≤ m) (sym begun-length) (room e .2);
+    waiting = ap (take n) (begun-is e) ∙ take-at (replicate n waitingState) (drop n lines) n (length-replicate n waitingState);
+  }
+
+  pub claim : Bytes image → number ≡ 0 → Searched image (searchOf image)
+  claim bytes e = searched image bytes (accepted e)
+
+  -- ---- what is left
+
+  pub shown : number ≡ 0
+      → outcome (foundIn number (take (length (searchOf image .trace)) (over (searchOf image .trace) trace))) (over (searchOf image .codes) codes) (over (searchOf image .trace) trace) (statesOf (searchOf image .devices) ++ drop n begun)
+      ≡ searchedOf image codes trace lines
+  unfolding searchedOf searchedAt leftBy
+  shown e =
+      let S = searchOf image in
+      let rest : drop n begun ≡ drop n lines = ap (drop n) (begun-is e) ∙ drop-at (replicate n waitingState) (drop n lines) n (length-replicate n waitingState) in
+      ap (λ (m : ℕ). outcome (foundIn m (take (length (S .trace)) (over (S .trace) trace))) (over (S .codes) codes) (over (S .trace) trace) (statesOf (S .devices) ++ drop n begun)) e
+      ∙ ap (λ (t : List ℕ). outcome (foundIn 0 t) (over (S .codes) codes) (over (S .trace) trace) (statesOf (S .devices) ++ drop n begun)) (take-at (S .trace) (drop (length (S .trace)) trace) (length (S .trace)) refl)
+      ∙ ap (λ (l : List LineState). outcome (foundIn 0 (S .trace)) (over (S .codes) codes) (over (S .trace) trace) (statesOf (S .devices) ++ l)) rest
+      ∙ ap (λ (m : ℕ). searchedAt m image codes trace lines) (sym e)
+
+  refused-at : (m : ℕ) → T (not (eqb m 0)) → outcome (foundIn m (take 0 trace)) codes trace lines ≡ searchedAt m image codes trace lines
+  unfolding searchedAt
+  refused-at zero t = absurd t
+  refused-at (suc m) t = refl
+
+  pub refused : T (not (eqb number 0)) → outcome (foundIn number (take 0 trace)) codes trace lines ≡ searchedOf image codes trace lines
+  unfolding searchedOf
+  refused t = refused-at number t
+
+-- what a search left, as one equation and as an equation for each thing
+pub leaves : (left : Outcome) (found : Found) (codes trace : List ℕ) (lines : List LineState) → outcome found codes trace lines ≡ left → Leaves left found codes trace lines
+leaves left found codes trace lines e = record {
+  found-is = ap (λ (o : Outcome). o .found) e;
+  codes-are = ap (λ (o : Outcome). o .codes) e;
+  trace-is = ap (λ (o : Outcome). o .trace) e;
+  lines-are = ap (λ (o : Outcome). o .lines) e;
+}
+
+pub left-is : (left : Outcome) (found : Found) (codes trace : List ℕ) (lines : List LineState) → Leaves left found codes trace lines → outcome found codes trace lines ≡ left
+left-is left found codes trace lines l = λ i. outcome (l .found-is i) (l .codes-are i) (l .trace-is i) (l .lines-are i)

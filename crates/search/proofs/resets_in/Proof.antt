@@ -1,0 +1,68 @@
+use Prim.Native.Nat.{_+_, _-_, _≤_}
+use mathlib.Core.Path.{_≡_}
+use native.Mathlib.Omega.{arith}
+use lib.ListN.{length, drop}
+use lib.Seq.{drop-length}
+use borrow.Author.Needs.{needs}
+use Rattle.discovery.specs.Words.{resetsIn, isReset}
+use Rattle.search.proofs.Counts.{resets-next}
+use Rattle.search.proofs.resets_in.Statement.{statement}
+use Rattle.search.proofs.resets_in.Tie as tie
+
+abbrev Inv-loop : tie.InvT-loop
+Inv-loop trace count₀ i₀ count i = (i ≤ length trace) × (count ≤ i) × (count + resetsIn (drop i trace) ≡ resetsIn trace)
+
+abbrev μ-loop : tie.MeasureT-loop
+μ-loop trace count₀ i₀ count i = length trace - i
+
+loop-holds : tie.Need-loop-holds Inv-loop μ-loop
+loop-holds c = (omega arith, omega arith, omega arith)
+
+shared-slice-read-one-if : tie.Need-shared-slice-read-one-if Inv-loop μ-loop
+shared-slice-read-one-if c = search needs
+
+one-if-requires : tie.Need-one-if-requires Inv-loop μ-loop
+one-if-requires c κs = search needs
+
+add-count : tie.Need-add-count Inv-loop μ-loop
+add-count c = let few = c .one-if .ensures .1 in let below = c .before .before .before .loop .inv .1 in search needs
+
+add-i : tie.Need-add-i Inv-loop μ-loop
+add-i c = search needs
+
+loop-less : tie.Need-loop-less Inv-loop μ-loop
+loop-less c = search needs
+
+loop-again : tie.Need-loop-again Inv-loop μ-loop
+unfolding isReset
+loop-again c =
+    let l = c .before .before .before .loop in
+    let t = c .before .before .before .before .before .args .trace .now in
+    let one = c .one-if .ensures .0 in
+    let few = c .one-if .ensures .1 in
+    let left = resets-next t (l .i) (c .before .before .loop-test .taken) in
+    let so = l .inv .2 in
+    (omega arith, omega arith, omega arith)
+
+returns : tie.Need-returns Inv-loop μ-loop
+unfolding resetsIn
+returns c =
+    let l = c .before .loop in
+    let e : l .i ≡ length (c .before .before .before .args .trace .now) = omega arith in
+    let so = rw (e, drop-length) at (l .inv .2) in
+    omega arith
+
+pub resets-in-spec : {M : Type 1} → statement M
+resets-in-spec =
+    tie.close
+    (tie.spec
+    Inv-loop
+    μ-loop
+    loop-holds
+    shared-slice-read-one-if
+    one-if-requires
+    add-count
+    add-i
+    loop-less
+    loop-again
+    returns)
