@@ -212,21 +212,21 @@ module _ (image codes₀ trace₀ : List ℕ) (lines₀ : List LineState) (ready
     devices : devicesIn image 0 (take n (s .lines)) ≡ devicesFrom image 0 (d .at)
     devices = ap (devicesIn image 0) taken ∙ devices-same image (accepted-known image (ready .accepted)) 0 (d .at) (let e = d .going .each in omega arith)
 
-    level-same : (e : ℕ) → levelOn image (s .lines) e ≡ G.levelOn image (d .at) e
+    level-same : (e : ℕ) → levelOn image (s .lines) e ≡ G.levelIn image (d .at) e
     unfolding levelOn
     level-same e = ap (Bus.levelOf (eventOf e)) devices
 
-    lines-same : (e : ℕ) → statesAfter image (s .lines) e (G.levelOn image (d .at) e) ≡ linesAfter image (d .at) e ++ drop n lines₀
+    lines-same : (e : ℕ) → statesAfter image (s .lines) e (G.levelIn image (d .at) e) ≡ linesAfter image (d .at) e ++ drop n lines₀
     unfolding statesAfter
     lines-same e =
-        ap (λ (ds : List Device). map (nextState (eventOf e) (G.levelOn image (d .at) e)) ds ++ drop n (s .lines)) devices
+        ap (λ (ds : List Device). map (nextState (eventOf e) (G.levelIn image (d .at) e)) ds ++ drop n (s .lines)) devices
         ∙ ap (λ (l : List LineState). linesAfter image (d .at) e ++ l) (ap (drop n) (d .lined) ∙ drop-at (d .at) (drop n lines₀) n (d .going .each))
 
     doing-next : hasEvent (s .step .answer) ≡ true → Doing (suc k) (exchangeWith image k s (levelIn image s))
     doing-next h =
         let e = sentIn image s in
         let m = s .step .next in
-        let level = G.levelOn image (d .at) e in
+        let level = G.levelIn image (d .at) e in
         let code = codeCompleted (m .passes) (nextOf m (answerOf level)) in
         let g = going-on image demand e (d .going) (sends h) in
         let few = going-room image demand e (d .going) (sends h) in
