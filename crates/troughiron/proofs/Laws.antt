@@ -1,18 +1,42 @@
--- 64 line states are enough: of an accepted image the run for C is refused for its room only where the answers are shorter than the trace.
--- Assumes nothing.
-use Prim.Native.Nat.{ℕ}
-use mathlib.Core.Path.{_≡_, ap, _∙_}
-use mathlib.Core.Bool.{Bool, _||_, or-false}
+-- What the host sees of a search, from what is had of it. Assumes nothing.
+use Prim.Native.Nat.{ℕ, zero, suc}
+use mathlib.Core.Path.{_≡_, refl, sym, ap, subst, _∙_}
 use mathlib.Core.List.{List}
-use lib.ListN.{length}
-use lib.Dec.{ltb}
-use borrow.Author.Tests.{le-ltb}
-use Rattle.image.specs.Image.{countOf}
-use Rattle.image.specs.Refusal.{imageRefusal}
-use Rattle.image.proofs.Accepted.{accepted-known}
-use Rattle.bus.specs.Refusal.{noRoom}
+use Rattle.search.specs.declared.Found.{Found}
+use Rattle.search.specs.Found.{Outcome}
+use Rattle.troughiron.specs.Host.{Finds, counted, SeesSearch}
 
-pub enough : (image trace : List ℕ) (answers : ℕ) → imageRefusal image ≡ 0 → noRoom image trace answers 64 ≡ ltb answers (length trace)
-unfolding noRoom
-enough image trace answers e =
-    ap (λ (b : Bool). ltb answers (length trace) || b) (le-ltb 64 (countOf image) (accepted-known image e .few)) ∙ or-false (ltb answers (length trace))
+counted-now : (number count before : ℕ) → number ≡ 0 → counted number count before ≡ count
+unfolding counted
+counted-now number count before e = ap (λ (n : ℕ). counted n count before) e
+
+counted-not : (number count before : ℕ) → (number ≡ 0 → ⊥) → counted number count before ≡ before
+unfolding counted
+counted-not zero count before h = absurd (h refl)
+counted-not (suc number) count before h = refl
+
+module _ (left : Outcome) (passes resets slots : ℕ) (found : Found) (codes trace : List ℕ) (finds : Finds left found codes trace) where
+  same : left .found .number ≡ found .number
+  same = ap (λ (f : Found). f .number) (sym (finds .found-is))
+
+  -- not refused: the counts are written
+  pub sees-counts : found .number ≡ 0 → SeesSearch left passes resets slots (found .number) codes trace (found .passes) (found .resets) (found .slots)
+  sees-counts e = record {
+    number-is = sym same;
+    codes-are = finds .codes-are;
+    trace-is = finds .trace-is;
+    passes-are = ap (λ (f : Found). f .passes) (finds .found-is) ∙ sym (counted-now (left .found .number) (left .found .passes) passes (same ∙ e));
+    resets-are = ap (λ (f : Found). f .resets) (finds .found-is) ∙ sym (counted-now (left .found .number) (left .found .resets) resets (same ∙ e));
+    slots-are = ap (λ (f : Found). f .slots) (finds .found-is) ∙ sym (counted-now (left .found .number) (left .found .slots) slots (same ∙ e));
+  }
+
+  -- refused: they are not
+  pub sees-none : (found .number ≡ 0 → ⊥) → SeesSearch left passes resets slots (found .number) codes trace passes resets slots
+  sees-none h = record {
+    number-is = sym same;
+    codes-are = finds .codes-are;
+    trace-is = finds .trace-is;
+    passes-are = sym (counted-not (left .found .number) (left .found .passes) passes (λ z. h (sym same ∙ z)));
+    resets-are = sym (counted-not (left .found .number) (left .found .resets) resets (λ z. h (sym same ∙ z)));
+    slots-are = sym (counted-not (left .found .number) (left .found .slots) slots (λ z. h (sym same ∙ z)));
+  }

@@ -1,6 +1,15 @@
 // What a C program calls, on numbers and byte slices.
 use device::LineState;
-ghost use Rattle.troughiron.specs.Host.{Sees, hostRun};
+use search::Found;
+ghost use mathlib.Core.Path.{_≡_};
+ghost use mathlib.Core.Bool.{cond};
+ghost use Rattle.bits.specs.Crc.{registered};
+ghost use Rattle.discovery.specs.Search.{searchOf};
+ghost use Rattle.discovery.specs.Searched.{Searched};
+ghost use Rattle.troughiron.specs.Host.{Sees, hostRun, Finds, SeesSearch, hostSearch};
+
+// The number of a search that is not refused.
+const ACCEPTED: u32 = 0;
 
 // The run, with 64 line states of its own: as many as an image has devices.
 #[no_mangle]
@@ -10,4 +19,45 @@ pub extern "C" fn troughiron_run(image: &mut [u8], trace: &[u8], answers: &mut [
     let waiting = LineState::waiting();
     let mut lines = [waiting; 64];
     bus::run(image, trace, answers, &mut lines)
+}
+
+// The search, with 64 line states of its own.
+fn search_own(image: &[u8], codes: &mut [u8], trace: &mut [u8]) -> Found
+    ensures { λ r. ⌜ Finds (hostSearch (now (image .entry)) (now (codes .entry)) (now (trace .entry))) r (now (codes .exit)) (now (trace .exit))
+        × (r .number ≡ 0 → Searched (now (image .entry)) (searchOf (now (image .entry)))) ⌝ }
+{
+    let waiting = LineState::waiting();
+    let mut lines = [waiting; 64];
+    search::search(image, codes, trace, &mut lines)
+}
+
+// The search. The numbers of passes, resets and slots are written where it is not refused.
+#[no_mangle]
+pub extern "C" fn troughiron_search(
+    image: &[u8],
+    codes: &mut [u8],
+    trace: &mut [u8],
+    passes: &mut u64,
+    resets: &mut u64,
+    slots: &mut u64,
+) -> u32
+    ensures { λ r. ⌜ SeesSearch (hostSearch (now (image .entry)) (now (codes .entry)) (now (trace .entry))) (now (passes .entry)) (now (resets .entry)) (now (slots .entry)) r (now (codes .exit)) (now (trace .exit)) (now (passes .exit)) (now (resets .exit)) (now (slots .exit))
+        × (r ≡ 0 → Searched (now (image .entry)) (searchOf (now (image .entry)))) ⌝ }
+{
+    let found = search_own(image, codes, trace);
+    let number = found.number;
+    if number == ACCEPTED {
+        *passes = found.passes;
+        *resets = found.resets;
+        *slots = found.slots;
+    }
+    number
+}
+
+// The registration check: 1 is yes, 0 is no.
+#[no_mangle]
+pub extern "C" fn troughiron_registration_check(code: &[u8]) -> u32
+    ensures { λ r. ⌜ r ≡ cond (registered (now (code .entry))) 1 0 ⌝ }
+{
+    if bits::registration_check(code) { 1 } else { 0 }
 }
