@@ -60,6 +60,31 @@ uint32_t troughiron_run(uint8_t *image, size_t image_length,
                         const uint8_t *trace, size_t trace_length,
                         uint8_t *answers, size_t answers_length);
 
+/*
+ * Searches the devices of an image: the searching master of the 1-Wire search algorithm, stepped with the levels of the line and nothing else.
+ * The image is only read.
+ *
+ * Returns 0 where the search is answered. With n devices,
+ *   - codes holds the n codes found, 8 bytes each: every device's code once, ordered by bit 0 first, 0 before 1;
+ *   - trace holds the events sent: n passes of a reset and 200 slots, or with n = 0 one reset. troughiron_run of it on the same image is not
+ *     refused, leaves the image as it is, and answers what the search saw;
+ *   - *passes, *resets and *slots are those of that trace: n, n and 200n, or with n = 0: 0, 1 and 0.
+ * Bytes past these are as they were.
+ *
+ * Returns the number of a refusal otherwise, and then nothing is changed, the three numbers included:
+ *   1 to 4  as for troughiron_run
+ *   7       room for codes under 8n, or for the trace under 201n, at least 1
+ *
+ * passes, resets and slots must not be null.
+ */
+uint32_t troughiron_search(const uint8_t *image, size_t image_length,
+                           uint8_t *codes, size_t codes_length,
+                           uint8_t *trace, size_t trace_length,
+                           uint64_t *passes, uint64_t *resets, uint64_t *slots);
+
+/* The registration check: 1 for exactly the 8 bytes whose CRC comes out zero, else 0. */
+uint32_t troughiron_registration_check(const uint8_t *code, size_t code_length);
+
 #ifdef __cplusplus
 }
 #endif
