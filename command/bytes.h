@@ -1,0 +1,26 @@
+/* Bytes that grow, and whole files of them. */
+#ifndef BYTES_H
+#define BYTES_H
+
+#include <stddef.h>
+#include <stdint.h>
+
+struct bytes {
+    uint8_t *data; /* null with no room */
+    size_t length, room;
+};
+
+void bytes_add(struct bytes *b, const void *more, size_t count);
+void bytes_repeat(struct bytes *b, uint8_t byte, size_t count);
+void bytes_free(struct bytes *b);
+
+/* Memory for count elements, grown from old; never null. */
+void *grown(void *old, size_t count, size_t size);
+
+/* Reads a whole file, or standard input for "-", onto the end of b. Returns DONE, or says why not. */
+int bytes_read(struct bytes *b, const char *path);
+
+/* What messages call a file. */
+const char *input_name(const char *path);
+
+#endif

@@ -1,0 +1,31 @@
+/* Images of benches. Whether an image is one is asked of the library and of nobody else. */
+#ifndef IMAGE_H
+#define IMAGE_H
+
+#include "bytes.h"
+#include "kind.h"
+
+/* A device of an accepted image. */
+struct device {
+    size_t number; /* from 1 */
+    const struct kind *kind;
+    const uint8_t *body;
+};
+
+enum { IMAGE_EDITION = 1, TABLE = 2, ENTRY_SIZE = 4 };
+
+/* Reads an image that the library accepts. Returns DONE, or says why not. */
+int image_read(struct bytes *image, const char *path);
+
+/* The library's refusal of an image, 1 to 4, or 0. */
+uint32_t image_refusal(const struct bytes *image);
+
+/* Of an accepted image: the number of devices, and one of them by its index. */
+size_t image_count(const struct bytes *image);
+struct device image_device(const struct bytes *image, size_t index);
+
+/* Writes "#2 DS1992 08 000000000002 E4", the name of a device, into room for it. */
+enum { DEVICE_TEXT = 48 };
+void device_write(char text[DEVICE_TEXT], const struct device *device);
+
+#endif

@@ -1,0 +1,33 @@
+#include "kind.h"
+
+#include <string.h>
+#include <strings.h>
+
+static const struct kind kinds[] = {
+    { "DS1992", 0x08, false, SCRATCHPAD + PAGE_SIZE, 128 },
+    { "DS1993", 0x06, false, SCRATCHPAD + PAGE_SIZE, 512 },
+    { "DS1982", 0x09, true, STATUS + STATUS_SIZE, PAGES * PAGE_SIZE },
+};
+
+enum { KINDS = sizeof kinds / sizeof *kinds };
+
+const struct kind *kind_of_family(uint8_t family)
+{
+    for (size_t i = 0; i < KINDS; i++)
+        if (kinds[i].family == family)
+            return &kinds[i];
+    return NULL;
+}
+
+const struct kind *kind_named(const char *name, size_t length)
+{
+    for (size_t i = 0; i < KINDS; i++)
+        if (strlen(kinds[i].name) == length && strncasecmp(kinds[i].name, name, length) == 0)
+            return &kinds[i];
+    return NULL;
+}
+
+size_t kind_body_size(const struct kind *kind)
+{
+    return kind->memory + kind->memory_size;
+}

@@ -1,0 +1,197 @@
+#include "outputs.h"
+
+#include "bytes.h"
+#include "status.h"
+
+#include <errno.h>
+#include <fcntl.h>
+#include <stdbool.h>
+#include <stdlib.h>
+#include <string.h>
+#include <sys/stat.h>
+#include <unistd.h>
+
+static const char *output_name(const char *path)
+{
+    return strcmp(path, "-") == 0 ? "standard output" : path;
+}
+
+static int write_all(int file, const void *bytes, size_t length, const char *name)
+{
+    const char *next = bytes;
+
+    while (length > 0) {
+        const ssize_t count = write(file, next, length);
+
+        if (count < 0 && errno == EINTR)
+            continue;
+        if (count < 0)
+            return bad_system(name);
+        next += count;
+        length -= (size_t)count;
+    }
+    return DONE;
+}
+
+/* ------------------------------------------------------------------ */
+/* Staging                                                             */
+
+static char *copied(const char *text)
+{
+    char *const copy = grown(NULL, strlen(text) + 1, 1);
+
+    return strcpy(copy, text);
+}
+
+/* The mode of a new file, as open would give it. */
+static mode_t new_mode(void)
+{
+    const mode_t mask = umask(0);
+
+    umask(mask);
+    return 0666 & ~mask;
+}
+
+static int fill_temporary(struct output *o, mode_t mode)
+{
+    const int file = mkstemp(o->temporary);
+    int status = DONE;
+
+    if (file < 0) {
+        status = bad_system(o->path);
+        *o->temporary = '\0'; /* there is none to remove */
+        return status;
+    }
+    status = write_all(file, o->bytes, o->length, o->path);
+    if (status == DONE && (fchmod(file, mode) != 0 || fsync(file) != 0))
+        status = bad_system(o->path);
+    if (close(file) != 0 && status == DONE)
+        status = bad_system(o->path);
+    return status;
+}
+
+static int stage_beside(struct output *o, mode_t mode)
+{
+    static const char ending[] = ".XXXXXX";
+    const size_t length = strlen(o->place);
+
+    o->temporary = grown(NULL, length + sizeof ending, 1);
+    memcpy(o->temporary, o->place, length);
+    memcpy(o->temporary + length, ending, sizeof ending);
+    return fill_temporary(o, mode);
+}
+
+/* A new file, or one that is there and may be written. */
+static int stage_file(struct output *o)
+{
+    struct stat there;
+
+    if (stat(o->path, &there) != 0) {
+        if (errno != ENOENT)
+            return bad_system(o->path);
+        o->place = copied(o->path);
+        return stage_beside(o, new_mode());
+    }
+    if (S_ISDIR(there.st_mode)) {
+        errno = EISDIR;
+        return bad_system(o->path);
+    }
+    if (access(o->path, W_OK) != 0)
+        return bad_system(o->path);
+    o->place = realpath(o->path, NULL);
+    if (!o->place)
+        return bad_system(o->path);
+    return S_ISREG(there.st_mode) ? stage_beside(o, there.st_mode & 07777) : DONE;
+}
+
+int outputs_stage(struct outputs *o, const char *path, const void *bytes, size_t length)
+{
+    if (!path)
+        return DONE;
+
+    struct output *const new = &o->list[o->count++];
+
+    *new = (struct output){ .path = path, .bytes = bytes, .length = length };
+    return strcmp(path, "-") == 0 ? DONE : stage_file(new);
+}
+
+/* ------------------------------------------------------------------ */
+/* Into place                                                          */
+
+/* Makes a renamed file last through a loss of power, where the system can. */
+static void sync_folder(const char *place)
+{
+    char *const folder = copied(place);
+    char *const slash = strrchr(folder, '/');
+
+    if (slash)
+        slash[slash == folder] = '\0';
+
+    const int file = open(slash ? folder : ".", O_RDONLY);
+
+    if (file >= 0) {
+        (void)fsync(file);
+        close(file);
+    }
+    free(folder);
+}
+
+static int write_place(const struct output *o)
+{
+    const bool standard = strcmp(o->path, "-") == 0;
+    const int file = standard ? STDOUT_FILENO : open(o->place, O_WRONLY);
+
+    if (file < 0)
+        return bad_system(o->path);
+
+    int status = write_all(file, o->bytes, o->length, output_name(o->path));
+
+    if (!standard && close(file) != 0 && status == DONE)
+        status = bad_system(o->path);
+    return status;
+}
+
+static int put_into_place(struct output *o)
+{
+    if (!o->temporary)
+        return write_place(o);
+    if (rename(o->temporary, o->place) != 0)
+        return bad_system(o->path);
+    *o->temporary = '\0';
+    sync_folder(o->place);
+    return DONE;
+}
+
+int report_flush(FILE *report)
+{
+    const char *const name = report == stderr ? "standard error" : "standard output";
+
+    if (fflush(report) != 0)
+        return bad_system(name);
+    return ferror(report) ? bad("%s: cannot be written", name) : DONE;
+}
+
+/* What can be written in part only, a pipe or a device, goes first: where it fails, no file is replaced. */
+int outputs_commit(struct outputs *o, FILE *report)
+{
+    int status = report_flush(report);
+
+    for (size_t i = 0; i < o->count && status == DONE; i++)
+        if (!o->list[i].temporary)
+            status = put_into_place(&o->list[i]);
+    for (size_t i = 0; i < o->count && status == DONE; i++)
+        if (o->list[i].temporary)
+            status = put_into_place(&o->list[i]);
+    return status;
+}
+
+void outputs_free(struct outputs *o)
+{
+    for (size_t i = 0; i < o->count; i++) {
+        if (o->list[i].temporary && *o->list[i].temporary)
+            unlink(o->list[i].temporary);
+        free(o->list[i].temporary);
+        free(o->list[i].place);
+    }
+    o->count = 0;
+}

@@ -1,0 +1,22 @@
+/* What run and search leave behind: the session with its answers, and the files that are asked for. */
+#ifndef RECORD_H
+#define RECORD_H
+
+#include "bytes.h"
+#include "session.h"
+
+#include <stdio.h>
+
+/* Paths, "-" for standard output, or null. */
+struct record_paths {
+    const char *image, *answers, *trace, *vcd;
+};
+
+/* Where the report goes: standard error where a file takes standard output. Null, with a word, where two files do. */
+FILE *record_report(const char *command, const struct record_paths *paths);
+
+/* Writes the files that are asked for, after the report. Returns DONE, or says why not. */
+int record_write(const struct record_paths *paths, FILE *report, const struct session *s, const struct bytes *answers,
+                 const struct bytes *image);
+
+#endif

@@ -1,0 +1,20 @@
+/* What a run did, for a reader: each step with what was sent and answered, and what changed in which device. */
+#ifndef REPORT_H
+#define REPORT_H
+
+#include "bytes.h"
+#include "session.h"
+
+#include <stdbool.h>
+#include <stdio.h>
+
+/* Each step, with the bytes that its slots spell; with bits, each byte's slots in their order too. */
+void report_steps(FILE *out, const struct session *s, const uint8_t *answers, bool bits);
+
+/* The numbers of events, resets, slots and pulses. */
+void report_counts(FILE *out, const struct bytes *events);
+
+/* What differs between two images of the same devices. */
+void report_changes(FILE *out, const struct bytes *before, const struct bytes *after);
+
+#endif

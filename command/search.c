@@ -1,0 +1,114 @@
+/* troughiron search: the codes on the line, as a searching master finds them. */
+#include "code.h"
+#include "commands.h"
+#include "image.h"
+#include "record.h"
+#include "status.h"
+#include "troughiron.h"
+
+#include <string.h>
+
+enum { PASS = 201, MOST_TRACE = PASS * TROUGHIRON_MOST_DEVICES, MOST_CODES = CODE_SIZE * TROUGHIRON_MOST_DEVICES };
+
+struct found {
+    uint8_t codes[MOST_CODES];
+    uint8_t trace[MOST_TRACE];
+    uint64_t passes, resets, slots;
+};
+
+/* The number of the device that has a code, from 1. */
+static size_t device_with(const struct bytes *image, const uint8_t *code)
+{
+    size_t i = 0;
+
+    while (i < image_count(image) && memcmp(image_device(image, i).body, code, CODE_SIZE) != 0)
+        i++;
+    return i + 1;
+}
+
+static void report_codes(FILE *out, const struct found *f, const struct bytes *image)
+{
+    for (size_t i = 0; i < f->passes; i++) {
+        const uint8_t *const code = f->codes + CODE_SIZE * i;
+        char text[CODE_TEXT];
+
+        code_write(text, code);
+        fprintf(out, "%s  %s  #%zu\n", text, kind_of_family(code[0])->name, device_with(image, code));
+    }
+    fprintf(out, "%llu passes, %llu resets, %llu slots\n", (unsigned long long)f->passes, (unsigned long long)f->resets,
+            (unsigned long long)f->slots);
+}
+
+/* A step for each pass, named by its code. With no device there is one reset and no pass. */
+static void pass_steps(struct session *s, const struct found *f)
+{
+    for (size_t i = 0; i < f->passes; i++) {
+        char text[CODE_TEXT];
+
+        code_write(text, f->codes + CODE_SIZE * i);
+        session_step(s, i + 1, text, strlen(text));
+        step_events(s, f->trace + PASS * i, PASS);
+    }
+    if (f->passes == 0) {
+        session_step(s, 1, "reset", strlen("reset"));
+        step_events(s, f->trace, 1);
+    }
+}
+
+/* The answers that the search saw are those of a run of its trace, which leaves the image as it is. */
+static int record_search(const struct found *f, struct bytes *image, const struct record_paths *paths, FILE *report)
+{
+    struct session session = { .name = "search", .unit = "pass" };
+    struct bytes answers = { 0 };
+
+    pass_steps(&session, f);
+    bytes_repeat(&answers, 0, session.events.length);
+
+    const uint32_t refusal = troughiron_run(image->data, image->length, session.events.data, session.events.length,
+                                            answers.data, answers.length);
+    const int status = refusal ? refused("search", refusal) : record_write(paths, report, &session, &answers, image);
+
+    bytes_free(&answers);
+    session_free(&session);
+    return status;
+}
+
+static int search_image(const char *path, const struct record_paths *paths, FILE *report)
+{
+    struct found found = { 0 };
+    struct bytes image = { 0 };
+    int status = image_read(&image, path);
+
+    if (status == DONE) {
+        const uint32_t refusal = troughiron_search(image.data, image.length, found.codes, sizeof found.codes, found.trace,
+                                                   sizeof found.trace, &found.passes, &found.resets, &found.slots);
+
+        status = refusal ? refused(input_name(path), refusal) : DONE;
+    }
+    if (status == DONE) {
+        report_codes(report, &found, &image);
+        status = record_search(&found, &image, paths, report);
+    }
+    bytes_free(&image);
+    return status;
+}
+
+int search_command(struct words *words)
+{
+    struct record_paths paths = { 0 };
+    const struct option options[] = {
+        { "--answers", &paths.answers, NULL },
+        { "--write-trace", &paths.trace, NULL },
+        { "--vcd", &paths.vcd, NULL },
+    };
+    const int status = options_take(words, options, sizeof options / sizeof *options);
+
+    if (status != DONE)
+        return status;
+    if (words->count != 1)
+        return words_wrong(words, "one image");
+
+    FILE *const report = record_report("search", &paths);
+
+    return report ? search_image(words->list[0], &paths, report) : USAGE;
+}

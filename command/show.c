@@ -1,0 +1,113 @@
+/* troughiron show: every device of an image. */
+#include "commands.h"
+#include "fields.h"
+#include "image.h"
+#include "outputs.h"
+#include "status.h"
+#include "style.h"
+
+#include <string.h>
+
+enum { ROW = 16 };
+
+static void dump_row(FILE *out, const uint8_t *row, size_t count)
+{
+    for (size_t i = 0; i < ROW; i++)
+        if (i < count)
+            fprintf(out, " %02X", row[i]);
+        else
+            fputs("   ", out);
+    fputs("  ", out);
+    for (size_t i = 0; i < count; i++)
+        fputc(row[i] >= 0x20 && row[i] < 0x7F ? row[i] : '.', out);
+    fputc('\n', out);
+}
+
+/* A star stands for rows like the one before it. */
+static void dump(FILE *out, struct field field, const uint8_t *body)
+{
+    const uint8_t *const bytes = body + field.place;
+    bool starred = false;
+
+    fprintf(out, "  %s\n", field.name);
+    for (size_t i = 0; i < field.size; i += ROW) {
+        const size_t count = field.size - i < ROW ? field.size - i : ROW;
+        const bool again = i > 0 && i + ROW < field.size && memcmp(bytes + i, bytes + i - ROW, ROW) == 0;
+
+        if (again && !starred)
+            fputs("    *\n", out);
+        starred = again;
+        if (again)
+            continue;
+        fprintf(out, "    %0*zXh", field.digits, i);
+        dump_row(out, bytes + i, count);
+    }
+}
+
+static void show_registers(FILE *out, const uint8_t *body)
+{
+    fprintf(out, "  TA   %02X%02Xh\n  E/S  ", body[TA2], body[TA1]);
+    print_es(out, body[ES]);
+    fputc('\n', out);
+}
+
+/* Byte 0 of the status has the write protection, bytes 1 to 4 the redirection: the ones' complement of the page that replaces this one. */
+static void show_pages(FILE *out, const uint8_t *status)
+{
+    for (unsigned page = 0; page < PAGES; page++) {
+        const bool protected = !(status[0] >> page & 1);
+        const uint8_t redirection = status[1 + page];
+        const unsigned to = 0xFFu - redirection;
+
+        if (protected)
+            fprintf(out, "    page %u: write-protected\n", page);
+        if (redirection != 0xFF)
+            fprintf(out, "    page %u: redirected to page %u%s\n", page, to, to < PAGES ? "" : ", which is not there");
+    }
+}
+
+static void show_device(FILE *out, const struct device *device)
+{
+    char name[DEVICE_TEXT];
+
+    device_write(name, device);
+    fputc('\n', out);
+    style_bright(out, style_wanted(out), name);
+    fputc('\n', out);
+    if (!device->kind->add_only)
+        show_registers(out, device->body);
+    dump(out, kind_field(device->kind, 0), device->body);
+    if (device->kind->add_only)
+        show_pages(out, device->body + STATUS);
+    dump(out, kind_field(device->kind, 1), device->body);
+}
+
+static void show_image(FILE *out, const char *path, const struct bytes *image)
+{
+    const size_t count = image_count(image);
+
+    fprintf(out, "%s: %zu device%s, %zu bytes\n", input_name(path), count, count == 1 ? "" : "s", image->length);
+    for (size_t i = 0; i < count; i++) {
+        const struct device device = image_device(image, i);
+
+        show_device(out, &device);
+    }
+}
+
+int show_command(struct words *words)
+{
+    struct bytes image = { 0 };
+    int status = options_take(words, NULL, 0);
+
+    if (status != DONE)
+        return status;
+    if (words->count != 1)
+        return words_wrong(words, "one image");
+    status = image_read(&image, words->list[0]);
+    if (status == DONE) {
+        show_image(stdout, words->list[0], &image);
+        status = report_flush(stdout);
+    }
+    bytes_free(&image);
+    return status;
+}

@@ -1,0 +1,157 @@
+#include "vcd.h"
+
+#include "event.h"
+#include "progress.h"
+
+#include <string.h>
+
+/* Nominal times in microseconds, each within what the data sheets ask for. */
+enum {
+    IDLE = 100,         /* before the first event and after the last */
+    SLOT = 70,          /* 60 and the recovery */
+    LOW_ONE = 6,        /* the master's low of a write-one or read slot */
+    LOW_ZERO = 60,      /* the master's low of a write-zero slot */
+    LOW_DEVICE = 30,    /* until a device lets go in a read slot */
+    RESET_LOW = 480,
+    PRESENCE_HIGH = 30, /* until the devices answer a reset */
+    PRESENCE_LOW = 120,
+    RESET_HIGH = 480,   /* the presence included */
+    PULSE_DELAY = 10,   /* before a program pulse, and after it */
+    PULSE = 480
+};
+
+enum { LINE, MASTER, PULSES, WIRES };
+
+/* Names of signals in the dump: letters that no value starts with. */
+static const char wires[WIRES] = { 'l', 'm', 'p' };
+static const char steps = 't';
+
+struct dump {
+    FILE *out;
+    unsigned long long now;
+    unsigned long long stamped; /* the time last written, plus one */
+};
+
+static void stamp(struct dump *d)
+{
+    if (d->stamped != d->now + 1)
+        fprintf(d->out, "#%llu\n", d->now);
+    d->stamped = d->now + 1;
+}
+
+static void set(struct dump *d, int wire, int level)
+{
+    stamp(d);
+    fprintf(d->out, "%d%c\n", level, wires[wire]);
+}
+
+static void head(FILE *out)
+{
+    fprintf(out,
+            "$version troughiron $end\n"
+            "$comment 1-Wire at standard speed, nominal widths $end\n"
+            "$timescale 1 us $end\n"
+            "$scope module bench $end\n"
+            "$var wire 1 %c line $end\n"
+            "$var wire 1 %c master $end\n"
+            "$var wire 1 %c pulse $end\n"
+            "$var string 1 %c step $end\n"
+            "$upscope $end\n"
+            "$enddefinitions $end\n",
+            wires[LINE], wires[MASTER], wires[PULSES], steps);
+}
+
+/* A string has no blanks in a dump. */
+static void mark(struct dump *d, const struct session *s, const struct step *step)
+{
+    stamp(d);
+    fprintf(d->out, "s%s_%zu:_", s->unit, step->line);
+    for (const char *c = step->text; *c; c++)
+        fputc(*c > ' ' && *c <= '~' ? *c : '_', d->out);
+    fprintf(d->out, " %c\n", steps);
+}
+
+/* Lets go of the line: the master after one time, the wire after another, and nothing more up to the end. */
+static void low(struct dump *d, unsigned master, unsigned line, unsigned end)
+{
+    const unsigned long long start = d->now;
+
+    set(d, LINE, 0);
+    set(d, MASTER, 0);
+    d->now = start + master;
+    set(d, MASTER, 1);
+    d->now = start + line;
+    set(d, LINE, 1);
+    d->now = start + end;
+}
+
+static void slot(struct dump *d, uint8_t event, uint8_t answer)
+{
+    const unsigned master = event == TROUGHIRON_WRITE_ZERO ? LOW_ZERO : LOW_ONE;
+    const unsigned device = answer ? 0 : LOW_DEVICE;
+
+    low(d, master, master > device ? master : device, SLOT);
+}
+
+static void reset(struct dump *d, uint8_t answer)
+{
+    low(d, RESET_LOW, RESET_LOW, RESET_LOW);
+    if (!answer) {
+        d->now += PRESENCE_HIGH;
+        set(d, LINE, 0);
+        d->now += PRESENCE_LOW;
+        set(d, LINE, 1);
+        d->now -= PRESENCE_HIGH + PRESENCE_LOW;
+    }
+    d->now += RESET_HIGH;
+}
+
+/* For a logic analyser 12 V is high: the line stays as it is. */
+static void pulse(struct dump *d)
+{
+    d->now += PULSE_DELAY;
+    set(d, PULSES, 1);
+    d->now += PULSE;
+    set(d, PULSES, 0);
+    d->now += PULSE_DELAY;
+}
+
+static void draw(struct dump *d, uint8_t event, uint8_t answer)
+{
+    if (is_slot(event))
+        slot(d, event, answer);
+    else if (event == TROUGHIRON_RESET)
+        reset(d, answer);
+    else
+        pulse(d);
+}
+
+static void start(struct dump *d)
+{
+    head(d->out);
+    fprintf(d->out, "#0\n$dumpvars\n1%c\n1%c\n0%c\nsidle %c\n$end\n", wires[LINE], wires[MASTER], wires[PULSES], steps);
+    d->now = IDLE;
+}
+
+static void finish(struct dump *d)
+{
+    stamp(d);
+    fprintf(d->out, "sidle %c\n#%llu\n", steps, d->now + IDLE);
+}
+
+void vcd_write(FILE *out, const struct session *s, const uint8_t *answers)
+{
+    struct dump d = { .out = out };
+    struct progress progress = progress_start("events drawn", s->events.length);
+    size_t next = 0;
+
+    start(&d);
+    for (size_t i = 0; i < s->events.length; i++) {
+        if (next < s->count && s->steps[next].first == i)
+            mark(&d, s, &s->steps[next++]);
+        draw(&d, s->events.data[i], answers[i]);
+        progress_at(&progress, i + 1);
+    }
+    finish(&d);
+    progress_end(&progress);
+}
