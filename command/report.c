@@ -7,7 +7,7 @@
 #include <string.h>
 
 /* Widths of the columns: the text of a step, and what was sent: eight bytes with blanks between them. */
-enum { TEXT = 24, SENT = 23, ROW_BYTES = 8, CELL = 32 };
+enum { TEXT = 28, SENT = 23, ROW_BYTES = 8, CELL = 32 };
 
 /* ------------------------------------------------------------------ */
 /* Rows: the events that are shown together                            */
@@ -123,6 +123,11 @@ void report_steps(FILE *out, const struct session *s, const uint8_t *answers, bo
     progress_end(&progress);
 }
 
+void report_number(FILE *out, uint64_t number, const char *one, const char *many)
+{
+    fprintf(out, "%llu %s", (unsigned long long)number, number == 1 ? one : many);
+}
+
 void report_counts(FILE *out, const struct bytes *events)
 {
     size_t resets = 0, pulses = 0;
@@ -131,5 +136,12 @@ void report_counts(FILE *out, const struct bytes *events)
         resets += events->data[i] == TROUGHIRON_RESET;
         pulses += events->data[i] == TROUGHIRON_PULSE;
     }
-    fprintf(out, "%zu events: %zu resets, %zu slots, %zu pulses\n", events->length, resets, events->length - resets - pulses, pulses);
+    report_number(out, events->length, "event", "events");
+    fputs(": ", out);
+    report_number(out, resets, "reset", "resets");
+    fputs(", ", out);
+    report_number(out, events->length - resets - pulses, "slot", "slots");
+    fputs(", ", out);
+    report_number(out, pulses, "pulse", "pulses");
+    fputc('\n', out);
 }

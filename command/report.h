@@ -11,6 +11,9 @@
 /* Each step, with the bytes that its slots spell; with bits, each byte's slots in their order too. */
 void report_steps(FILE *out, const struct session *s, const uint8_t *answers, bool bits);
 
+/* A number of things: "1 pass", "2 passes". */
+void report_number(FILE *out, uint64_t number, const char *one, const char *many);
+
 /* The numbers of events, resets, slots and pulses. */
 void report_counts(FILE *out, const struct bytes *events);
 

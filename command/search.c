@@ -3,6 +3,7 @@
 #include "commands.h"
 #include "image.h"
 #include "record.h"
+#include "report.h"
 #include "status.h"
 #include "troughiron.h"
 
@@ -35,8 +36,12 @@ static void report_codes(FILE *out, const struct found *f, const struct bytes *i
         code_write(text, code);
         fprintf(out, "%s  %s  #%zu\n", text, kind_of_family(code[0])->name, device_with(image, code));
     }
-    fprintf(out, "%llu passes, %llu resets, %llu slots\n", (unsigned long long)f->passes, (unsigned long long)f->resets,
-            (unsigned long long)f->slots);
+    report_number(out, f->passes, "pass", "passes");
+    fputs(", ", out);
+    report_number(out, f->resets, "reset", "resets");
+    fputs(", ", out);
+    report_number(out, f->slots, "slot", "slots");
+    fputc('\n', out);
 }
 
 /* A step for each pass, named by its code. With no device there is one reset and no pass. */

@@ -3,6 +3,7 @@
 #include "fields.h"
 #include "image.h"
 #include "outputs.h"
+#include "report.h"
 #include "status.h"
 #include "style.h"
 
@@ -86,7 +87,9 @@ static void show_image(FILE *out, const char *path, const struct bytes *image)
 {
     const size_t count = image_count(image);
 
-    fprintf(out, "%s: %zu device%s, %zu bytes\n", input_name(path), count, count == 1 ? "" : "s", image->length);
+    fprintf(out, "%s: ", input_name(path));
+    report_number(out, count, "device", "devices");
+    fprintf(out, ", %zu bytes\n", image->length);
     for (size_t i = 0; i < count; i++) {
         const struct device device = image_device(image, i);
 

@@ -1,0 +1,66 @@
+# Reads a waveform back by its times alone: the events and their answers, "EVENT ANSWER" on a line each. It knows the widths of the data
+# sheets and nothing of the command. A width that no data sheet allows is an error, and the exit status 1.
+#   reset 480 us low or more; presence: 15 to 60 us high, then 60 to 240 us low
+#   slot: up to 15 us low a one; 60 to 120 us a zero of the master; between them a zero of a device
+#   program pulse: 480 us or more on the signal "pulse"
+
+function wrong(what) {
+    print "vcd.awk: at " now " us: " what | "cat >&2"
+    failed = 1
+    exit 1
+}
+
+# A reset whose presence did not come is answered 1.
+function close_reset() {
+    if (reset_seen) print "2 1"
+    reset_seen = 0
+}
+
+function presence(width) {
+    if (fell - rose < 15 || fell - rose > 60) wrong("presence " (fell - rose) " us after a reset")
+    if (width < 60 || width > 240) wrong("presence of " width " us")
+    print "2 0"
+    reset_seen = 0
+    quiet_until = rose + 480
+}
+
+# The line went low at fell and high now.
+function low(width) {
+    if (reset_seen && fell - rose < 480) { presence(width); return }
+    close_reset()
+    if (fell < quiet_until) wrong("the line falls " (quiet_until - fell) " us too early")
+    if (width >= 480) { rose = now; reset_seen = 1; return }
+    if (width >= 1 && width <= 15) print "1 1"
+    else if (width > 15 && width < 60) print "1 0"
+    else if (width >= 60 && width <= 120) print "0 0"
+    else wrong("low for " width " us")
+    quiet_until = fell + 61
+}
+
+$1 == "$timescale" { if ($2 != "1" || $3 != "us") { now = 0; wrong("timescale " $2 $3) } }
+$1 == "$var" { name[$4] = $5 }
+/^#/ { now = substr($0, 2) + 0; if (now < last) wrong("time goes back"); last = now }
+/^[01]/ {
+    signal = name[substr($0, 2)]
+    level = substr($0, 1, 1)
+    if (signal == "line" && level != line) {
+        if (level == 0) fell = now
+        else if (line == "0") low(now - fell)
+        line = level
+    }
+    if (signal == "pulse" && level != pulse) {
+        if (level == 1) { close_reset(); pulsed = now }
+        else if (pulse == "1") {
+            if (now - pulsed < 480) wrong("pulse of " (now - pulsed) " us")
+            if (line != "1") wrong("a pulse while the line is low")
+            print "3 1"
+            quiet_until = now + 5
+        }
+        pulse = level
+    }
+}
+END {
+    if (failed) exit 1
+    close_reset()
+    if (line != "1") { print "vcd.awk: the line ends low" | "cat >&2"; exit 1 }
+}
