@@ -1,7 +1,7 @@
 # The command, and what a C project needs to link the library.
 #   make                        target/command/troughiron
 #   make install                under PREFIX, by default /usr/local; DESTDIR is put before it
-#   make check                  the tests of the command
+
 # The library is made with 'rt staticlib troughiron', where it is missing or older than the code of a crate.
 
 VERSION = 0.1.0

@@ -44,8 +44,9 @@ static int dispatch(struct words *words)
 
 int main(int argc, char **argv)
 {
-    /* A pipe that nobody reads is an error like another, and is said. */
+    /* A pipe that nobody reads and a file that may not grow are errors like others, and are said. */
     signal(SIGPIPE, SIG_IGN);
+    signal(SIGXFSZ, SIG_IGN);
     if (argc < 2)
         return bad_usage("", "a command expected");
     if (strcmp(argv[1], "--version") == 0)
