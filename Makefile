@@ -1,7 +1,6 @@
 # The command, and what a C project needs to link the library.
 #   make                        target/command/troughiron
-#   make install                under PREFIX, by default /usr/local; DESTDIR is put before it
-
+#   make install                under PREFIX, by default /usr/local, with DESTDIR before it; make uninstall
 # The library is made with 'rt staticlib troughiron', where it is missing or older than the code of a crate.
 
 VERSION = 0.1.0
@@ -41,7 +40,22 @@ $(PROGRAM): $(SOURCES) $(HEADERS) $(LIBRARY) Makefile
 $(LIBRARY):
 	@command/library '$(LIBRARY)'
 
+# The folders are made as they are needed, so that a package can be put together anywhere.
+install: all
+	mkdir -p '$(DESTDIR)$(BINDIR)' '$(DESTDIR)$(LIBDIR)/pkgconfig' '$(DESTDIR)$(INCLUDEDIR)' '$(DESTDIR)$(MANDIR)/man1'
+	install -m 755 '$(PROGRAM)' '$(DESTDIR)$(BINDIR)/troughiron'
+	install -m 644 '$(LIBRARY)' '$(DESTDIR)$(LIBDIR)/libtroughiron.a'
+	install -m 644 include/troughiron.h '$(DESTDIR)$(INCLUDEDIR)/troughiron.h'
+	install -m 644 man/troughiron.1 '$(DESTDIR)$(MANDIR)/man1/troughiron.1'
+	sed -e 's|@PREFIX@|$(PREFIX)|' -e 's|@LIBDIR@|$(LIBDIR)|' -e 's|@INCLUDEDIR@|$(INCLUDEDIR)|' -e 's|@VERSION@|$(VERSION)|' \
+	    command/troughiron.pc.in >'$(BUILD)/troughiron.pc'
+	install -m 644 '$(BUILD)/troughiron.pc' '$(DESTDIR)$(LIBDIR)/pkgconfig/troughiron.pc'
+
+uninstall:
+	rm -f '$(DESTDIR)$(BINDIR)/troughiron' '$(DESTDIR)$(LIBDIR)/libtroughiron.a' '$(DESTDIR)$(INCLUDEDIR)/troughiron.h' \
+	    '$(DESTDIR)$(MANDIR)/man1/troughiron.1' '$(DESTDIR)$(LIBDIR)/pkgconfig/troughiron.pc'
+
 clean:
 	rm -rf '$(BUILD)'
 
-.PHONY: all library clean
+.PHONY: all library install uninstall clean

@@ -27,7 +27,7 @@ static int check_code(uint8_t code[CODE_SIZE])
     return status != DONE ? status : valid ? DONE : NOT_VALID;
 }
 
-/* A code may be given in parts, as engraved; together they have to fit. */
+/* A code may be given in parts. */
 int check_command(struct words *words)
 {
     char text[64] = "";

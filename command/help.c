@@ -48,7 +48,7 @@ static const char run_help[] =
     "The image is left alone unless -o names it. Steps, one a line:\n"
     "  reset            reset and presence\n"
     "  skip             skip ROM: CC\n"
-    "  match CODE       match ROM: 55 and a code as engraved, or #2 for the image's second device\n"
+    "  match CODE       match ROM: 55 and a code, or #2 for the image's second device\n"
     "  send 0F 26 00    bytes, least significant bit first\n"
     "  bits 0110        single slots, in this order\n"
     "  read 5           read slots for so many bytes\n"
@@ -77,8 +77,8 @@ static const char search_help[] =
 static const char check_help[] =
     "usage: troughiron check CODE\n"
     "\n"
-    "Checks a registration code as engraved: family code, serial number, CRC, 16 hexadecimal digits, blanks and dashes\n"
-    "between them as one likes. Ends with 0 for a valid code and with 3 for another.\n";
+    "Checks a registration code: family code, serial number as engraved, CRC; 16 hexadecimal digits, with blanks and\n"
+    "dashes between them as one likes. Ends with 0 for a valid code and with 3 for another.\n";
 
 const char *help_text(const char *command)
 {
