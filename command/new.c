@@ -105,19 +105,29 @@ static bool serial_is_given(const struct bench *b, const struct kind *kind, uint
     return false;
 }
 
-/* Devices without a serial number are counted up, past those that are given. */
+static uint64_t count_up(struct bench *b)
+{
+    const uint64_t serial = b->next_serial;
+
+    b->next_serial = (serial + 1) & (((uint64_t)1 << 48) - 1);
+    return serial;
+}
+
+/* The next serial number that is not given to a device of the kind. */
+static uint64_t free_serial(struct bench *b, const struct kind *kind)
+{
+    uint64_t serial = count_up(b);
+
+    while (serial_is_given(b, kind, serial))
+        serial = count_up(b);
+    return serial;
+}
+
 static void number_devices(struct bench *b)
 {
-    const uint64_t all = ((uint64_t)1 << 48) - 1;
-
-    for (size_t i = 0; i < b->count; i++) {
-        if (b->plans[i].has_serial)
-            continue;
-        while (serial_is_given(b, b->plans[i].kind, b->next_serial))
-            b->next_serial = (b->next_serial + 1) & all;
-        b->plans[i].serial = b->next_serial;
-        b->next_serial = (b->next_serial + 1) & all;
-    }
+    for (size_t i = 0; i < b->count; i++)
+        if (!b->plans[i].has_serial)
+            b->plans[i].serial = free_serial(b, b->plans[i].kind);
 }
 
 /* ------------------------------------------------------------------ */

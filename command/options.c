@@ -67,9 +67,10 @@ int options_take(struct words *words, const struct option *options, size_t count
             return USAGE;
         i += taken;
     }
-    for (i++; i < words->count; i++)
-        words->list[kept++] = words->list[i];
-    words->count = kept;
+    if (i < words->count)
+        i++; /* past "--" */
+    memmove(words->list + kept, words->list + i, (words->count - i) * sizeof *words->list);
+    words->count = kept + words->count - i;
     return DONE;
 }
 

@@ -171,18 +171,24 @@ int report_flush(FILE *report)
     return ferror(report) ? bad("%s: cannot be written", name) : DONE;
 }
 
-/* What can be written in part only, a pipe or a device, goes first: where it fails, no file is replaced. */
+static int commit_those(struct outputs *o, bool staged_beside)
+{
+    int status = DONE;
+
+    for (size_t i = 0; i < o->count && status == DONE; i++)
+        if (!o->list[i].temporary == !staged_beside)
+            status = put_into_place(&o->list[i]);
+    return status;
+}
+
+/* What has no temporary file, a pipe or a device, can fail in the middle and so goes first: then no file is replaced. */
 int outputs_commit(struct outputs *o, FILE *report)
 {
     int status = report_flush(report);
 
-    for (size_t i = 0; i < o->count && status == DONE; i++)
-        if (!o->list[i].temporary)
-            status = put_into_place(&o->list[i]);
-    for (size_t i = 0; i < o->count && status == DONE; i++)
-        if (o->list[i].temporary)
-            status = put_into_place(&o->list[i]);
-    return status;
+    if (status == DONE)
+        status = commit_those(o, false);
+    return status == DONE ? commit_those(o, true) : status;
 }
 
 void outputs_free(struct outputs *o)

@@ -174,6 +174,12 @@ static int read_send(struct reader *r)
     return DONE;
 }
 
+static void step_slots(struct session *s, const char *levels)
+{
+    for (; *levels; levels++)
+        step_event(s, *levels == '1' ? TROUGHIRON_WRITE_ONE : TROUGHIRON_WRITE_ZERO);
+}
+
 static int read_bits(struct reader *r)
 {
     const char *word = next_word(r);
@@ -181,8 +187,7 @@ static int read_bits(struct reader *r)
     do {
         if (!word || strspn(word, "01") != strlen(word))
             return wrong(r, "bits", "zeros and ones", word);
-        for (; *word; word++)
-            step_event(r->session, *word == '1' ? TROUGHIRON_WRITE_ONE : TROUGHIRON_WRITE_ZERO);
+        step_slots(r->session, word);
     } while ((word = next_word(r)));
     return DONE;
 }

@@ -11,17 +11,16 @@
 
 enum { ROW = 16 };
 
+/* A row in hexadecimal digits and in letters. */
 static void dump_row(FILE *out, const uint8_t *row, size_t count)
 {
-    for (size_t i = 0; i < ROW; i++)
-        if (i < count)
-            fprintf(out, " %02X", row[i]);
-        else
-            fputs("   ", out);
-    fputs("  ", out);
-    for (size_t i = 0; i < count; i++)
-        fputc(row[i] >= 0x20 && row[i] < 0x7F ? row[i] : '.', out);
-    fputc('\n', out);
+    char digits[3 * ROW + 1] = "", letters[ROW + 1] = "";
+
+    for (size_t i = 0; i < count; i++) {
+        snprintf(digits + 3 * i, 4, " %02X", row[i]);
+        letters[i] = row[i] >= 0x20 && row[i] < 0x7F ? (char)row[i] : '.';
+    }
+    fprintf(out, "%-*s  %s\n", 3 * ROW, digits, letters);
 }
 
 /* A star stands for rows like the one before it. */
