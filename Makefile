@@ -3,6 +3,8 @@
 #   make install                under PREFIX, by default /usr/local, with DESTDIR before it; make uninstall
 # The library is made with 'rt staticlib troughiron', where it is missing or older than the code of a crate.
 
+.POSIX:
+
 VERSION = 0.1.0
 PREFIX = /usr/local
 BINDIR = $(PREFIX)/bin

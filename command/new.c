@@ -95,7 +95,7 @@ static int bench_add(struct bench *b, const char *whole)
 }
 
 /* ------------------------------------------------------------------ */
-/* Serial numbers                                                      */
+/* Serial numbers and memories                                         */
 
 static bool serial_is_given(const struct bench *b, const struct kind *kind, uint64_t serial)
 {
@@ -128,6 +128,19 @@ static void number_devices(struct bench *b)
     for (size_t i = 0; i < b->count; i++)
         if (!b->plans[i].has_serial)
             b->plans[i].serial = free_serial(b, b->plans[i].kind);
+}
+
+/* Standard input is there once. */
+static int check_memories(const struct bench *b)
+{
+    size_t standard = 0;
+
+    for (size_t i = 0; i < b->count; i++) {
+        const char *const path = b->plans[i].memory ? b->plans[i].memory : b->memory;
+
+        standard += path && strcmp(path, "-") == 0;
+    }
+    return standard > 1 ? bad_usage("new", "only one memory can come from standard input") : DONE;
 }
 
 /* ------------------------------------------------------------------ */
@@ -242,6 +255,8 @@ int new_command(struct words *words)
         status = words_wrong(words, "an image and devices");
     for (size_t i = 1; i < words->count && status == DONE; i++)
         status = bench_add(&bench, words->list[i]);
+    if (status == DONE)
+        status = check_memories(&bench);
     if (status != DONE)
         return status;
     number_devices(&bench);

@@ -7,18 +7,27 @@
 #include <stdlib.h>
 #include <string.h>
 
+/* How many of some paths are this one. */
+static size_t times_named(const char *const *paths, size_t count, const char *path)
+{
+    size_t times = 0;
+
+    for (size_t i = 0; i < count; i++)
+        times += paths[i] && strcmp(paths[i], path) == 0;
+    return times;
+}
+
 FILE *record_report(const char *command, const struct record_paths *paths)
 {
     const char *const all[] = { paths->image, paths->answers, paths->trace, paths->vcd };
-    size_t standard = 0;
+    const size_t count = sizeof all / sizeof *all;
 
-    for (size_t i = 0; i < sizeof all / sizeof *all; i++)
-        standard += all[i] && strcmp(all[i], "-") == 0;
-    if (standard > 1) {
-        bad_usage(command, "only one file can go to standard output");
-        return NULL;
-    }
-    return standard ? stderr : stdout;
+    for (size_t i = 0; i < count; i++)
+        if (all[i] && times_named(all, count, all[i]) > 1) {
+            bad_usage(command, "two files cannot both go to '%s'", all[i]);
+            return NULL;
+        }
+    return times_named(all, count, "-") ? stderr : stdout;
 }
 
 /* The waveform as text, to be freed. Returns DONE, or says why not. */
