@@ -1,0 +1,185 @@
+#include "workload.h"
+
+#include "dice.h"
+
+/* ------------------------------------------------------------------ */
+/* Kinds                                                               */
+
+static void all_kinds(enum kind *kinds, size_t count)
+{
+    for (size_t i = 0; i < count; i++)
+        kinds[i] = (enum kind)(i % KINDS);
+}
+
+static void ds1993_only(enum kind *kinds, size_t count)
+{
+    for (size_t i = 0; i < count; i++)
+        kinds[i] = DS1993;
+}
+
+static void ds1982_only(enum kind *kinds, size_t count)
+{
+    for (size_t i = 0; i < count; i++)
+        kinds[i] = DS1982;
+}
+
+/* ------------------------------------------------------------------ */
+/* Mixed sessions                                                      */
+
+static int is_full(const struct trace *t)
+{
+    return t->length == MOST_EVENTS;
+}
+
+static void read_from(struct trace *t, uint8_t command, size_t address,
+                      size_t bytes)
+{
+    trace_byte(t, command);
+    trace_address(t, (uint16_t)address);
+    trace_read(t, 8 * bytes);
+}
+
+/* Skip ROM, or Match ROM of a device. */
+static void address_device(struct dice *dice, struct trace *t,
+                           const struct bench *b, size_t device)
+{
+    if (dice_once_in(dice, 2))
+        trace_skip(t);
+    else
+        trace_match(t, bench_see(b, device, 0));
+}
+
+/* Eight bytes written, read back and copied, then memory read. */
+static void use_sram(struct dice *dice, struct trace *t, const struct bench *b,
+                     size_t device)
+{
+    enum { BYTES = 8 };
+    const size_t target =
+        dice_below(dice, kind_memory_bytes(b->kinds[device]) / BYTES) * BYTES;
+    const uint8_t ending = (uint8_t)(target % PAGE_BYTES + BYTES - 1);
+
+    address_device(dice, t, b, device);
+    trace_byte(t, WRITE_SCRATCHPAD);
+    trace_address(t, (uint16_t)target);
+    trace_bits(t, dice_roll(dice), 8 * BYTES);
+    address_device(dice, t, b, device);
+    trace_byte(t, READ_SCRATCHPAD);
+    trace_read(t, 8 * (3 + BYTES));
+    address_device(dice, t, b, device);
+    trace_byte(t, COPY_SCRATCHPAD);
+    trace_address(t, (uint16_t)target);
+    trace_byte(t, ending);
+    trace_read(t, 8);
+    address_device(dice, t, b, device);
+    read_from(t, READ_MEMORY, target, 2 * BYTES);
+}
+
+/* Two bytes written, with their pulses where the bench takes them. */
+static void program(struct dice *dice, struct trace *t, const struct bench *b,
+                    uint8_t command)
+{
+    trace_byte(t, command);
+    trace_address(t, (uint16_t)dice_below(dice, DATA_BYTES));
+    for (int i = 0; i < 2; i++) {
+        trace_byte(t, (uint8_t)dice_roll(dice));
+        trace_read(t, 8);
+        if (bench_takes_pulses(b))
+            trace_event(t, PULSE);
+        trace_read(t, 8);
+    }
+}
+
+/* Each command of a DS1982. */
+static void use_eprom(struct dice *dice, struct trace *t,
+                      const struct bench *b, size_t device)
+{
+    const size_t address = dice_below(dice, DATA_BYTES - PAGE_BYTES);
+
+    address_device(dice, t, b, device);
+    program(dice, t, b, WRITE_DATA);
+    address_device(dice, t, b, device);
+    program(dice, t, b, WRITE_STATUS);
+    address_device(dice, t, b, device);
+    read_from(t, READ_DATA, address, 16);
+    address_device(dice, t, b, device);
+    read_from(t, READ_STATUS, 0, 1 + STATUS_BYTES + 1);
+    address_device(dice, t, b, device);
+    read_from(t, READ_DATA_BY_PAGE, address, 1 + PAGE_BYTES);
+}
+
+static void mixed_sessions(struct trace *t, const struct bench *b)
+{
+    struct dice dice = dice_for(1, b->count);
+
+    while (!is_full(t)) {
+        const size_t device = dice_below(&dice, b->count);
+
+        if (b->kinds[device] == DS1982)
+            use_eprom(&dice, t, b, device);
+        else
+            use_sram(&dice, t, b, device);
+    }
+}
+
+/* ------------------------------------------------------------------ */
+/* All send, or all but one wait                                       */
+
+/* Skip ROM, and all memory read, again and again. */
+static void all_send(struct trace *t, const struct bench *b)
+{
+    while (!is_full(t)) {
+        trace_skip(t);
+        read_from(t, READ_MEMORY, 0, kind_memory_bytes(b->kinds[0]));
+    }
+}
+
+/* Match ROM of one device, and all its memory read, again and again. */
+static void all_but_one_wait(struct trace *t, const struct bench *b)
+{
+    while (!is_full(t)) {
+        trace_match(t, bench_see(b, b->count / 2, 0));
+        read_from(t, READ_MEMORY, 0, kind_memory_bytes(b->kinds[0]));
+    }
+}
+
+/* ------------------------------------------------------------------ */
+
+const struct workload workloads[] = {
+    { "mixed sessions, all kinds", all_kinds, mixed_sessions },
+    { "mixed sessions, DS1982", ds1982_only, mixed_sessions },
+    { "all send, DS1993", ds1993_only, all_send },
+    { "all send, DS1982", ds1982_only, all_send },
+    { "all but one wait, DS1993", ds1993_only, all_but_one_wait },
+    { "all but one wait, DS1982", ds1982_only, all_but_one_wait },
+    { NULL, NULL, NULL },
+};
+
+/* Fresh EPROMs: with bytes of any value most sessions would program nothing. */
+static void erase_eproms(struct bench *b)
+{
+    for (size_t i = 0; i < b->count; i++)
+        if (b->kinds[i] == DS1982)
+            for (size_t k = STATUS; k < kind_body_bytes(DS1982); k++)
+                *bench_at(b, i, k) = 0xFF;
+}
+
+void workload_make(const struct workload *w, size_t devices, size_t events,
+                   struct bench *b, struct trace *t)
+{
+    enum kind kinds[MOST_DEVICES];
+
+    w->kinds(kinds, devices);
+    bench_make(b, kinds, devices, devices);
+    erase_eproms(b);
+    t->length = 0;
+    w->session(t, b);
+    t->length = events;
+}
+
+void workload_bench(struct bench *b, size_t devices)
+{
+    enum kind kinds[MOST_DEVICES];
+
+    all_kinds(kinds, devices);
+    bench_make(b, kinds, devices, devices);
+}
