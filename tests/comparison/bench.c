@@ -1,6 +1,5 @@
 #include "bench.h"
 
-#include <stdio.h>
 #include <string.h>
 
 /* ------------------------------------------------------------------ */
@@ -124,7 +123,7 @@ int bench_takes_pulses(const struct bench *b)
 }
 
 /* ------------------------------------------------------------------ */
-/* Names                                                               */
+/* Names, and showing                                                  */
 
 static void name_table_byte(size_t place, char *name, size_t room)
 {
@@ -190,4 +189,41 @@ void bench_name_byte(const struct bench *b, size_t place, char *name,
             return;
         }
     snprintf(name, room, "after the last body");
+}
+
+void show_bytes(FILE *out, const uint8_t *bytes, size_t count)
+{
+    for (size_t i = 0; i < count; i++)
+        fprintf(out, " %02X", bytes[i]);
+}
+
+static void show_device(FILE *out, const struct bench *b, size_t i)
+{
+    fprintf(out, "    device %zu: %s at %zu, code", i, kind_name(b->kinds[i]),
+            b->bodies[i]);
+    show_bytes(out, bench_see(b, i, 0), CODE_BYTES);
+    if (b->kinds[i] == DS1982) {
+        fprintf(out, ", status");
+        show_bytes(out, bench_see(b, i, STATUS), STATUS_BYTES);
+    } else {
+        fprintf(out, ", TA1 TA2 E/S");
+        show_bytes(out, bench_see(b, i, TA1), 3);
+    }
+    fputc('\n', out);
+}
+
+void bench_show(FILE *out, const struct bench *b)
+{
+    enum { MOST_SHOWN = 16 };
+    const size_t shown = b->count < MOST_SHOWN ? b->count : MOST_SHOWN;
+    const size_t start = b->length < 16 ? b->length : 16;
+
+    fprintf(out, "image before the call, %zu bytes:", b->length);
+    show_bytes(out, b->bytes, start);
+    fprintf(out, "%s\n", start < b->length ? " ..." : "");
+    fprintf(out, "devices laid out: %zu\n", b->count);
+    for (size_t i = 0; i < shown; i++)
+        show_device(out, b, i);
+    if (shown < b->count)
+        fprintf(out, "    and %zu devices more\n", b->count - shown);
 }

@@ -6,6 +6,7 @@
 
 #include <stddef.h>
 #include <stdint.h>
+#include <stdio.h>
 
 enum kind { DS1992, DS1993, DS1982, KINDS };
 
@@ -80,5 +81,10 @@ int bench_takes_pulses(const struct bench *b);
 /* Writes the name of the part of an image that a byte belongs to. */
 void bench_name_byte(const struct bench *b, size_t place, char *name,
                      size_t room);
+
+/* Shows the devices as they were laid out, even if damage came later. */
+void bench_show(FILE *out, const struct bench *b);
+
+void show_bytes(FILE *out, const uint8_t *bytes, size_t count);
 
 #endif

@@ -3,6 +3,7 @@
 #define RUN_H
 
 #include "bench.h"
+#include "digit.h"
 #include "trace.h"
 
 #include <stddef.h>
@@ -21,18 +22,6 @@ struct run_case {
     unsigned expected; /* the number to be returned, or ANY_NUMBER */
     int null;          /* whether an empty buffer is a null pointer */
 };
-
-/*
- * Takes the number of a case apart: gives its last digit in a base, and leaves
- * the digits before it.
- */
-static inline size_t digit(size_t *number, size_t base)
-{
-    const size_t last = *number % base;
-
-    *number /= base;
-    return last;
-}
 
 /* The small cases; NULL and 0 past the last, as in struct subject. */
 const char *run_small_group(size_t group);
