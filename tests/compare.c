@@ -14,7 +14,8 @@
 #include <unistd.h>
 
 /* A function of the library is compared once it stands here. */
-static const struct subject *const subjects[] = { &run_subject };
+static const struct subject *const subjects[] = { &run_subject,
+                                                 &search_subject };
 
 enum { SUBJECTS = sizeof subjects / sizeof *subjects };
 

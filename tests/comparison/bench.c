@@ -114,6 +114,22 @@ void bench_make(struct bench *b, const enum kind *kinds, size_t count,
     }
 }
 
+void bench_take_out(struct bench *b, size_t device)
+{
+    static struct bench whole;
+    enum kind kinds[MOST_ENTRIES] = { DS1992 };
+    size_t count = 0;
+
+    whole = *b;
+    for (size_t i = 0; i < whole.count; i++)
+        if (i != device)
+            kinds[count++] = whole.kinds[i];
+    bench_lay_out(b, kinds, count);
+    for (size_t i = 0; i < count; i++)
+        memcpy(bench_at(b, i, 0), bench_see(&whole, i + (i >= device), 0),
+               kind_body_bytes(kinds[i]));
+}
+
 int bench_takes_pulses(const struct bench *b)
 {
     for (size_t i = 0; i < b->count; i++)

@@ -75,6 +75,9 @@ const uint8_t *bench_see(const struct bench *b, size_t device, size_t offset);
 /* Gives a device a code of its family that no earlier device has. */
 void bench_give_code(struct bench *b, size_t device, uint64_t serial);
 
+/* Takes a device out.  The table is written anew: damage to it is gone. */
+void bench_take_out(struct bench *b, size_t device);
+
 /* Whether no device is of another kind than DS1982. */
 int bench_takes_pulses(const struct bench *b);
 

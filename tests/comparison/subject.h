@@ -36,5 +36,6 @@ struct subject {
 };
 
 extern const struct subject run_subject;
+extern const struct subject search_subject;
 
 #endif
