@@ -14,8 +14,9 @@
 #include <unistd.h>
 
 /* A function of the library is compared once it stands here. */
-static const struct subject *const subjects[] = { &run_subject,
-                                                 &search_subject };
+static const struct subject *const subjects[] = {
+    &run_subject, &search_subject, &registration_subject, &view_subject
+};
 
 enum { SUBJECTS = sizeof subjects / sizeof *subjects };
 

@@ -8,6 +8,7 @@
 #include <stdlib.h>
 #include <string.h>
 #include <sys/mman.h>
+#include <time.h>
 #include <unistd.h>
 
 enum {
@@ -92,11 +93,22 @@ void guarded_prepare(void)
         sigaction(signals[i], &action, NULL);
 }
 
+/* Once a second will do, and the clock is cheaper than the alarm. */
+static void put_off_alarm(void)
+{
+    static time_t last;
+    const time_t now = time(NULL);
+
+    if (now != last)
+        alarm(PATIENCE);
+    last = now;
+}
+
 struct fault guarded_call(void (*function)(void *), void *argument)
 {
     if (sigsetjmp(way_out, 0) != 0)
         return (struct fault){ last_fault.signal, last_fault.address };
-    alarm(PATIENCE);
+    put_off_alarm();
     calling = 1;
     function(argument);
     calling = 0;
