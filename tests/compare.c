@@ -15,7 +15,8 @@
 
 /* A function of the library is compared once it stands here. */
 static const struct subject *const subjects[] = {
-    &run_subject, &search_subject, &registration_subject, &view_subject
+    &run_subject,  &search_subject, &registration_subject,
+    &feed_subject, &view_subject
 };
 
 enum { SUBJECTS = sizeof subjects / sizeof *subjects };

@@ -49,6 +49,18 @@ void code_write(uint8_t *code, uint8_t family, uint64_t serial)
     code[7] = crc_of(code, 7);
 }
 
+int code_order(const void *left, const void *right)
+{
+    for (size_t i = 0; i < CODE_BITS; i++) {
+        const unsigned a = ((const uint8_t *)left)[i / 8] >> i % 8 & 1;
+        const unsigned b = ((const uint8_t *)right)[i / 8] >> i % 8 & 1;
+
+        if (a != b)
+            return a < b ? -1 : 1;
+    }
+    return 0;
+}
+
 /* ------------------------------------------------------------------ */
 /* Layout and contents                                                 */
 

@@ -61,6 +61,9 @@ uint8_t crc_of(const uint8_t *bytes, size_t count);
 /* Writes a valid code. */
 void code_write(uint8_t *code, uint8_t family, uint64_t serial);
 
+/* Which of two codes is found first, for qsort: bit 0 first, 0 before 1. */
+int code_order(const void *left, const void *right);
+
 /* The table and the offsets of an accepted image; the bodies are zero. */
 void bench_lay_out(struct bench *b, const enum kind *kinds, size_t count);
 

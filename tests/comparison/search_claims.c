@@ -25,23 +25,6 @@ size_t search_trace_room(size_t devices)
 /* ------------------------------------------------------------------ */
 /* The codes                                                           */
 
-static unsigned code_bit(const uint8_t *code, size_t bit)
-{
-    return code[bit / 8] >> bit % 8 & 1;
-}
-
-/* Bit 0 first, 0 before 1. */
-static int code_order(const void *left, const void *right)
-{
-    for (size_t i = 0; i < CODE_BITS; i++) {
-        const unsigned a = code_bit(left, i), b = code_bit(right, i);
-
-        if (a != b)
-            return a < b ? -1 : 1;
-    }
-    return 0;
-}
-
 static int codes_are_the_devices(const struct bench *b, const uint8_t *codes)
 {
     uint8_t wanted[MOST_CODE_BYTES];

@@ -38,6 +38,7 @@ struct subject {
 extern const struct subject run_subject;
 extern const struct subject search_subject;
 extern const struct subject registration_subject;
+extern const struct subject feed_subject;
 extern const struct subject view_subject;
 
 #endif
