@@ -23,10 +23,11 @@ enum { SUBJECTS = sizeof subjects / sizeof *subjects };
 
 struct options {
     uint64_t seed;
-    uint64_t cases;   /* generated ones of each subject */
-    double seconds;   /* if not 0: as many cases as they allow */
-    const char *only; /* if not NULL: the case to be replayed */
-    int small;        /* whether the small cases are tried */
+    uint64_t cases;      /* generated ones of each subject */
+    double seconds;      /* if not 0: as many cases as they allow */
+    const char *only;    /* if not NULL: the case to be replayed */
+    const char *subject; /* if not NULL: the only one tried */
+    int small;           /* whether the small cases are tried */
 };
 
 struct comparison {
@@ -47,7 +48,8 @@ static void usage(FILE *out)
           "  --seconds N    generated cases for so long\n"
           "  --case K       replays a case: NUMBER of a generated one, or\n"
           "                 GROUP:NUMBER of a small one\n"
-          "  --generated    leaves the small cases out\n",
+          "  --generated    leaves the small cases out\n"
+          "  --subject NAME run, search, registration, feed or view only\n",
           out);
 }
 
@@ -68,6 +70,15 @@ static uint64_t number_in(const char *text)
     return number;
 }
 
+static const char *subject_named(const char *name)
+{
+    for (size_t i = 0; i < SUBJECTS; i++)
+        if (strcmp(subjects[i]->name, name) == 0)
+            return name;
+    refuse_options("no such subject", name);
+    return NULL;
+}
+
 /* Takes an option that has a value. */
 static void take_option(struct options *o, const char *name, const char *value)
 {
@@ -79,6 +90,8 @@ static void take_option(struct options *o, const char *name, const char *value)
         o->seconds = (double)number_in(value);
     else if (strcmp(name, "--case") == 0)
         o->only = value;
+    else if (strcmp(name, "--subject") == 0)
+        o->subject = subject_named(value);
     else
         refuse_options("unknown option", name);
 }
@@ -150,6 +163,12 @@ static const struct subject *subject_of(struct place p)
     return subjects[p.subject];
 }
 
+static int is_wanted(const struct comparison *c, size_t subject)
+{
+    return !c->options.subject
+           || strcmp(c->options.subject, subjects[subject]->name) == 0;
+}
+
 struct making {
     const struct comparison *comparison;
     struct place place;
@@ -181,8 +200,9 @@ static void report(const struct comparison *c, struct place p)
     clear_progress(c);
     if (p.group == GENERATED)
         printf("DIFFERENT: %s, seed %llu, case %llu\n"
-               "replay: tests/compare --seed %llu --case %llu\n",
-               subject_of(p)->name, seed, number, seed, number);
+               "replay: tests/compare --subject %s --seed %llu --case %llu\n",
+               subject_of(p)->name, seed, number, subject_of(p)->name, seed,
+               number);
     else
         printf("DIFFERENT: %s, case %s:%llu\n"
                "replay: tests/compare --case %s:%llu\n",
@@ -233,7 +253,8 @@ static int small_group_alike(struct comparison *c, size_t subject,
 static int small_cases_alike(struct comparison *c)
 {
     for (size_t i = 0; i < SUBJECTS; i++)
-        for (size_t group = 0; subjects[i]->group(group); group++)
+        for (size_t group = 0; is_wanted(c, i) && subjects[i]->group(group);
+             group++)
             if (!small_group_alike(c, i, group))
                 return 0;
     return 1;
@@ -242,7 +263,8 @@ static int small_cases_alike(struct comparison *c)
 static int generated_case_alike(struct comparison *c, uint64_t number)
 {
     for (size_t i = 0; i < SUBJECTS; i++)
-        if (try_case(c, (struct place){ i, GENERATED, number }) != ALIKE)
+        if (is_wanted(c, i)
+            && try_case(c, (struct place){ i, GENERATED, number }) != ALIKE)
             return 0;
     return 1;
 }
@@ -268,7 +290,8 @@ static int replay_generated(struct comparison *c, uint64_t number)
     if (!generated_case_alike(c, number))
         return 0;
     for (size_t i = 0; i < SUBJECTS; i++)
-        explain(c, (struct place){ i, GENERATED, number });
+        if (is_wanted(c, i))
+            explain(c, (struct place){ i, GENERATED, number });
     return 1;
 }
 
@@ -323,7 +346,8 @@ static void show_summary(const struct comparison *c)
 {
     clear_progress(c);
     for (size_t i = 0; i < SUBJECTS; i++)
-        subjects[i]->summary(c->states[i], stdout);
+        if (is_wanted(c, i))
+            subjects[i]->summary(c->states[i], stdout);
     printf("%llu cases alike\n", (unsigned long long)c->alike);
 }
 

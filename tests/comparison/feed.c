@@ -206,7 +206,7 @@ static void feed_generated(void *state, uint64_t seed, uint64_t number)
 }
 
 const struct subject feed_subject = {
-    .name = "fed master",
+    .name = "feed",
     .create = feed_create,
     .group = feed_small_group,
     .small = feed_small,

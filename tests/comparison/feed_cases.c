@@ -301,17 +301,28 @@ static size_t some_code_count(struct dice *dice)
     }
 }
 
-/* The levels of a search, at times of a code that has a wrong bit. */
+/* A wrong bit in any code, or in the CRC of the last that is come to. */
+static void spoil_code(struct dice *dice, struct codes *codes)
+{
+    const size_t last =
+        (codes->count < MOST_DEVICES ? codes->count : MOST_DEVICES) - 1;
+    const int of_last = dice_once_in(dice, 2);
+    const size_t which = of_last ? last : dice_below(dice, codes->count);
+    const size_t bit = of_last ? CODE_BITS - 8 + dice_below(dice, 8)
+                               : dice_below(dice, CODE_BITS);
+
+    codes->bytes[which][bit / 8] ^= (uint8_t)(1u << bit % 8);
+}
+
+/* The levels of a search, at times of one where a code is not valid. */
 static void search_levels(struct dice *dice, struct feed_case *c)
 {
     struct codes codes;
 
     some_codes(&codes, some_code_count(dice), dice_roll(dice));
     if (codes.count > 0 && dice_once_in(dice, 6)) {
-        const size_t bit = dice_below(dice, CODE_BITS);
-
-        codes.bytes[dice_below(dice, codes.count)][bit / 8] ^=
-            (uint8_t)(1u << bit % 8);
+        qsort(codes.bytes, codes.count, CODE_BYTES, code_order);
+        spoil_code(dice, &codes);
     }
     add_search(c, &codes);
 }
@@ -339,12 +350,12 @@ static void any_levels(struct dice *dice, struct feed_case *c)
             add_level(c, dice_roll(dice) & 1);
 }
 
-/* Another level somewhere, fewer levels, more of them, or other values. */
+/* Fewer levels, more of them, other values, no presence, or a wrong level. */
 static void disturb(struct dice *dice, struct feed_case *c)
 {
     const size_t place = c->length > 0 ? dice_below(dice, c->length) : 0;
 
-    switch (dice_below(dice, 6)) {
+    switch (dice_below(dice, 7)) {
     case 0:
         c->length = place;
         break;
@@ -358,10 +369,12 @@ static void disturb(struct dice *dice, struct feed_case *c)
                 c->levels[i] = (uint8_t)(1 + dice_below(dice, 255));
         break;
     case 3:
+        c->levels[place / PASS_EVENTS * PASS_EVENTS] = 1;
+        break;
+    case 4:
         break;
     default:
-        if (c->length > 0)
-            c->levels[place] = c->levels[place] == 0;
+        c->levels[place] = c->levels[place] == 0;
     }
 }
 

@@ -147,7 +147,10 @@ static int registration_small(void *state, size_t group, size_t number)
 /* ------------------------------------------------------------------ */
 /* Generated cases                                                     */
 
-/* Any bytes of any length, mostly 8, half of them with the right CRC. */
+/*
+ * Any bytes of any length, mostly 8; with a right CRC, or starting with a code
+ * that is valid; at times with a wrong bit.
+ */
 static void registration_generated(void *state, uint64_t seed,
                                    uint64_t number)
 {
@@ -159,6 +162,8 @@ static void registration_generated(void *state, uint64_t seed,
                                        : CODE_BYTES;
     if (r->length > 0 && dice_once_in(&dice, 2))
         r->bytes[r->length - 1] = crc_of(r->bytes, r->length - 1);
+    if (dice_once_in(&dice, 4))
+        code_write(r->bytes, r->bytes[0], dice_roll(&dice));
     if (r->length > 0 && dice_once_in(&dice, 8))
         r->bytes[dice_below(&dice, r->length)] ^=
             (uint8_t)(1u << dice_below(&dice, 8));
@@ -209,7 +214,7 @@ static void registration_summary(const void *state, FILE *out)
 }
 
 const struct subject registration_subject = {
-    .name = "registration check",
+    .name = "registration",
     .create = registration_create,
     .group = registration_group,
     .small = registration_small,
