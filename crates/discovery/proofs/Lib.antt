@@ -1,7 +1,7 @@
 mod Codes
 mod Passes
 mod Bits
-mod Devices
+pub mod Devices
 mod Steps
 pub mod Driven
 mod Walk

@@ -1,0 +1,3 @@
+mod Rows
+mod SkipRom
+pub mod Examples

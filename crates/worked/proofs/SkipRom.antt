@@ -1,0 +1,146 @@
+-- Example 1 for every accepted image: all devices take the bits of a ROM command together. Assumes nothing.
+use Prim.Native.Nat.{ℕ, zero, suc, _+_, _<_, _≤_}
+use mathlib.Core.Path.{_≡_, refl, sym, ap, _∙_, subst}
+use mathlib.Core.Bool.{Bool, true, false, not, cond}
+use mathlib.Core.List.{List, [], _∷_, _++_, map}
+use native.Mathlib.Omega.{arith}
+use lib.ListN.{length, drop, replicate}
+use lib.Dec.{eqb, lit<}
+use borrow.Author.Tests.{ne-eqb}
+use Rattle.bits.specs.Bit.{shiftIn}
+use Rattle.kind.specs.Kind.{bodySize}
+use Rattle.line.specs.declared.RomStage.the-variants.{Waiting}
+use Rattle.line.specs.Names.{atMemoryCommand}
+use Rattle.image.specs.Image.{countOf, kindAt}
+use Rattle.image.specs.Refusal.{imageRefusal}
+use Rattle.image.proofs.Accepted.{accepted-known}
+use Rattle.rom.specs.Rom.{afterCommand, romCommand}
+use Rattle.device.specs.declared.LineState.{LineState}
+use Rattle.device.specs.Device.{stateOf, waitingState, resetState}
+use Rattle.bus.specs.declared.Event.the-variants.{Slot, Reset}
+use Rattle.bus.specs.declared.Event.{Event}
+use Rattle.bus.specs.Bus.{Device, BusStep, eventOf, presence, levelOf, nextDevice, busStepAt, busStep, Run, answerOf, withAnswer, runTrace}
+use Rattle.bus.specs.Refusal.{someByte, badTrace, badPulse, runRefusal}
+use Rattle.bus.specs.Run.{waitingDevices, headerOf, bodiesOf, statesOf, outcome, leftBy, runAt, runOf}
+use Rattle.bus.proofs.Laws.{not-refused}
+use Rattle.bus.proofs.Shown.{Stand, waiting-stands, waiting-all, waiting-image, waiting-states}
+use Rattle.discovery.proofs.Devices.{inState, Sized, active, device, stands, all-active, reset-all, rom-unwritten, commanded, command-level, command-after}
+use Rattle.worked.specs.Table.{skipRom, skipAnswers}
+use Rattle.worked.specs.Examples.{presenceOf}
+
+-- ---- devices in one state
+
+-- every device in this line state
+abbrev all : LineState → List Device → List Device
+all s ds = map (inState s) ds
+
+all-stands : (s : LineState) (ds : List Device) → stands s (map active ds) ≡ all s ds
+all-stands s [] = refl
+all-stands s (d ∷ ds) = ap (λ (es : List Device). inState s d ∷ es) (all-stands s ds)
+
+all-states : (s : LineState) (ds : List Device) → statesOf (all s ds) ≡ replicate (length ds) s
+all-states s [] = refl
+all-states s (d ∷ ds) = ap (λ (ss : List LineState). s ∷ ss) (all-states s ds)
+
+all-bodies : (s : LineState) (ds : List Device) → bodiesOf (all s ds) ≡ bodiesOf ds
+unfolding bodiesOf
+all-bodies s [] = refl
+all-bodies s (d ∷ ds) = ap (λ (l : List ℕ). d .body ++ l) (all-bodies s ds)
+
+-- devices that have these states already
+all-same : (s : LineState) (n : ℕ) (ds : List Device) → statesOf ds ≡ replicate n s → ds ≡ all s ds
+all-same s n [] e = refl
+all-same s zero (d ∷ ds) e = let z : _≡_ {A = ℕ} 0 1 = cc in absurd (omega arith)
+all-same s (suc n) (d ∷ ds) e =
+    let h : d .state ≡ s = cc in
+    let t = all-same s n ds (cc) in
+    λ i. record { kind = d .kind; body = d .body; state = h i } ∷ t i
+
+sized : (image : List ℕ) (i : ℕ) (ds : List Device) → Stand image i ds → Sized ds
+sized image i [] s = tt
+sized image i (d ∷ ds) s = (s .0 .size ∙ ap bodySize (sym (s .0 .kind)), sized image (suc i) ds (s .1))
+
+-- ---- the run
+
+-- the bits of CCh from one on
+abbrev bitsFrom : ℕ → List ℕ
+bitsFrom k = drop (suc k) skipRom
+
+module _ (ds : List Device) (fit : Sized ds) where
+  fits : Sized (map device (map active ds))
+  fits = subst Sized (sym (all-active ds)) fit
+
+  -- a bit of the command: the line has the master's level, and every device takes it
+  slot-step : (bits value : ℕ) (sent : Bool) → bits < 8
+      → busStep (Slot sent) (all (commanded bits value) ds) ≡ record { level = sent; devices = all (stateOf (afterCommand bits value sent)) ds }
+  unfolding busStep busStepAt
+  slot-step bits value sent h =
+      let e = all-stands (commanded bits value) ds in
+      let level : levelOf (Slot sent) (all (commanded bits value) ds) ≡ sent = subst (λ (es : List Device). levelOf (Slot sent) es ≡ sent) e (command-level bits value sent (map active ds) h fits) in
+      let after : map (nextDevice (Slot sent) sent) (all (commanded bits value) ds) ≡ all (stateOf (afterCommand bits value sent)) ds =
+      ap (map (nextDevice (Slot sent) sent)) (sym e) ∙ command-after bits value sent (map active ds) h fits ∙ all-stands (stateOf (afterCommand bits value sent)) ds in
+      ap (λ (l : Bool). busStepAt (Slot sent) l (all (commanded bits value) ds)) level ∙ ap (λ (es : List Device). record { level = sent; devices = es }) after
+
+  slot-run : (bits value : ℕ) (sent : Bool) (byte : ℕ) (trace : List ℕ) → eventOf byte ≡ Slot sent → bits < 8
+      → runTrace (byte ∷ trace) (all (commanded bits value) ds) ≡ withAnswer sent (runTrace trace (all (stateOf (afterCommand bits value sent)) ds))
+  unfolding runTrace
+  slot-run bits value sent byte trace e h =
+      ap (λ (b : BusStep). withAnswer (b .level) (runTrace trace (b .devices)))
+      (ap (λ (v : Event). busStep v (all (commanded bits value) ds)) e ∙ slot-step bits value sent h)
+
+  -- the eight bits of CCh
+  command-run : runTrace (bitsFrom 0) (all resetState ds) ≡ record { answers = bitsFrom 0; devices = all (stateOf atMemoryCommand) ds }
+  unfolding eventOf afterCommand romCommand shiftIn withAnswer answerOf runTrace
+  command-run =
+      slot-run 0 0x00 false 0 (bitsFrom 1) refl (lit< tt)
+      ∙ ap (withAnswer false) (slot-run 1 0x00 false 0 (bitsFrom 2) refl (lit< tt)
+      ∙ ap (withAnswer false) (slot-run 2 0x00 true 1 (bitsFrom 3) refl (lit< tt)
+      ∙ ap (withAnswer true) (slot-run 3 0x80 true 1 (bitsFrom 4) refl (lit< tt)
+      ∙ ap (withAnswer true) (slot-run 4 0xC0 false 0 (bitsFrom 5) refl (lit< tt)
+      ∙ ap (withAnswer false) (slot-run 5 0x60 false 0 (bitsFrom 6) refl (lit< tt)
+      ∙ ap (withAnswer false) (slot-run 6 0x30 true 1 (bitsFrom 7) refl (lit< tt)
+      ∙ ap (withAnswer true) (slot-run 7 0x98 true 1 (bitsFrom 8) refl (lit< tt))))))))
+
+  -- the reset before them, of devices that wait
+  reset-run : (trace : List ℕ) → runTrace (2 ∷ trace) (all waitingState ds) ≡ withAnswer (presence (all waitingState ds)) (runTrace trace (all resetState ds))
+  unfolding runTrace eventOf busStep busStepAt levelOf
+  reset-run trace =
+      let level = presence (all waitingState ds) in
+      let after : map (nextDevice Reset level) (all waitingState ds) ≡ all resetState ds =
+      ap (map (nextDevice Reset level)) (sym (all-stands waitingState ds))
+      ∙ reset-all waitingState level (map active ds) (rom-unwritten Waiting)
+      ∙ ap (λ (es : List Device). stands resetState (map active es)) (all-active ds)
+      ∙ all-stands resetState ds in
+      ap (λ (es : List Device). withAnswer level (runTrace trace es)) after
+
+  skip-run : runTrace skipRom (all waitingState ds)
+      ≡ record { answers = skipAnswers (answerOf (presence (all waitingState ds))); devices = all (stateOf atMemoryCommand) ds }
+  unfolding withAnswer
+  skip-run = reset-run (bitsFrom 0) ∙ ap (withAnswer (presence (all waitingState ds))) command-run
+
+-- presence by the count
+presence-is : (image : List ℕ) (s : LineState) (ds : List Device) → length ds ≡ countOf image → answerOf (presence (all s ds)) ≡ presenceOf image
+unfolding presence answerOf
+presence-is image s [] e = rw (sym e)
+presence-is image s (d ∷ ds) e = rw (ne-eqb (countOf image) 0 (λ (z : countOf image ≡ 0). omega arith))
+
+pub skip-rom : (image answers : List ℕ) (lines : List LineState) → imageRefusal image ≡ 0 → length skipRom ≤ length answers → countOf image ≤ length lines
+    → runOf skipRom image answers lines
+    ≡ outcome 0 image (skipAnswers (presenceOf image) ++ drop (length skipRom) answers)
+    (replicate (countOf image) (stateOf atMemoryCommand) ++ drop (countOf image) lines)
+unfolding runOf runAt leftBy badTrace badPulse someByte
+skip-rom image answers lines accepted room lent =
+    let known = accepted-known image accepted in
+    let ds = waitingDevices image in
+    let n = countOf image in
+    let count = waiting-all image known in
+    let admitted = not-refused image skipRom (length answers) (length lines) (record { image-accepted = accepted; trace-good = refl; pulses-good = refl; answers-room = room; lines-room = lent }) in
+    let begun : runTrace skipRom ds ≡ record { answers = skipAnswers (answerOf (presence (all waitingState ds))); devices = all (stateOf atMemoryCommand) ds } =
+    ap (runTrace skipRom) (all-same waitingState n ds (waiting-states image known)) ∙ skip-run ds (sized image 0 ds (waiting-stands image known)) in
+    ap (λ (m : ℕ). runAt m skipRom image answers lines) admitted
+    ∙ ap (λ (r : Run). leftBy r skipRom image answers lines) begun
+    ∙ ap (λ (p : ℕ). outcome 0 (headerOf image ++ bodiesOf (all (stateOf atMemoryCommand) ds)) (skipAnswers p ++ drop (length skipRom) answers) (statesOf (all (stateOf atMemoryCommand) ds) ++ drop n lines)) (presence-is image waitingState ds count)
+    ∙ ap (λ (l : List ℕ). outcome 0 l (skipAnswers (presenceOf image) ++ drop (length skipRom) answers) (statesOf (all (stateOf atMemoryCommand) ds) ++ drop n lines))
+    (ap (λ (l : List ℕ). headerOf image ++ l) (all-bodies (stateOf atMemoryCommand) ds) ∙ waiting-image image known)
+    ∙ ap (λ (l : List LineState). outcome 0 image (skipAnswers (presenceOf image) ++ drop (length skipRom) answers) (l ++ drop n lines))
+    (all-states (stateOf atMemoryCommand) ds ∙ ap (λ (k : ℕ). replicate k (stateOf atMemoryCommand)) count)

@@ -1,0 +1,5 @@
+pub mod Session
+pub mod Images
+pub mod Row
+pub mod Table
+pub mod Examples
