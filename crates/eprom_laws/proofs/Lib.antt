@@ -4,4 +4,3 @@ pub mod Viewing
 pub mod Writing
 pub mod Several
 pub mod Range
-pub mod Examples

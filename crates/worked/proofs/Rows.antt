@@ -47,5 +47,5 @@ unfolding bitOf bitAt atLevel withBit putBit shiftIn crcBit crcBits crcByte crcF
 rows =
     refl and refl and refl and refl and refl and refl and refl and refl and refl and refl and refl and refl and refl and refl and refl and refl and refl and refl
     and found
-    and refl and refl and refl and refl and refl and refl and refl and refl and refl and refl
+    and refl and refl and refl and refl and refl and refl and refl and refl and refl and refl and refl
     and none

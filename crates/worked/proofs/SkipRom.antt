@@ -1,17 +1,17 @@
 -- Example 1 for every accepted image: all devices take the bits of a ROM command together. Assumes nothing.
 use Prim.Native.Nat.{ℕ, zero, suc, _+_, _<_, _≤_}
 use mathlib.Core.Path.{_≡_, refl, sym, ap, _∙_, subst}
-use mathlib.Core.Bool.{Bool, true, false, not, cond}
+use mathlib.Core.Bool.{Bool, true, false}
 use mathlib.Core.List.{List, [], _∷_, _++_, map}
 use native.Mathlib.Omega.{arith}
 use lib.ListN.{length, drop, replicate}
-use lib.Dec.{eqb, lit<}
+use lib.Dec.{lit<}
 use borrow.Author.Tests.{ne-eqb}
 use Rattle.bits.specs.Bit.{shiftIn}
 use Rattle.kind.specs.Kind.{bodySize}
 use Rattle.line.specs.declared.RomStage.the-variants.{Waiting}
 use Rattle.line.specs.Names.{atMemoryCommand}
-use Rattle.image.specs.Image.{countOf, kindAt}
+use Rattle.image.specs.Image.{countOf}
 use Rattle.image.specs.Refusal.{imageRefusal}
 use Rattle.image.proofs.Accepted.{accepted-known}
 use Rattle.rom.specs.Rom.{afterCommand, romCommand}
@@ -20,7 +20,7 @@ use Rattle.device.specs.Device.{stateOf, waitingState, resetState}
 use Rattle.bus.specs.declared.Event.the-variants.{Slot, Reset}
 use Rattle.bus.specs.declared.Event.{Event}
 use Rattle.bus.specs.Bus.{Device, BusStep, eventOf, presence, levelOf, nextDevice, busStepAt, busStep, Run, answerOf, withAnswer, runTrace}
-use Rattle.bus.specs.Refusal.{someByte, badTrace, badPulse, runRefusal}
+use Rattle.bus.specs.Refusal.{someByte, badTrace, badPulse}
 use Rattle.bus.specs.Run.{waitingDevices, headerOf, bodiesOf, statesOf, outcome, leftBy, runAt, runOf}
 use Rattle.bus.proofs.Laws.{not-refused}
 use Rattle.bus.proofs.Shown.{Stand, waiting-stands, waiting-all, waiting-image, waiting-states}

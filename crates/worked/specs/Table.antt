@@ -144,19 +144,24 @@ cutAddress =
     (ds1982 (ones 8) (counting 128 0x00))
     ∷ []
 
--- A device that listens beside one that sends. After AAh the DS1992 sends TA1 and TA2, 05 00, and the DS1982 takes the line's level as the
--- address of read status, while the master sends ones. Then the DS1992 sends ones (E/S, scratchpad), and the DS1982 the CRC of AA 05 00,
--- status bytes 5 to 7, and their CRC
-abbrev pub senderAndListener : List ℕ
-senderAndListener =
+-- A device that listens beside one that sends takes the line's level. After 0Fh, address and data the DS1982 sends the CRC of 0F 05 00 A5,
+-- and the DS1992 takes it as the next byte of its scratchpad, while the master sends ones
+abbrev pub writtenBoth : List ℕ → List ℕ → List ℕ
+writtenBoth registers scratchpad =
+    ds1992AndDs1982 (sramBody ds1992Code registers scratchpad (zeros 128)) (epromBody ds1982Code (ones 8) (ones 128))
+
+-- After AAh the DS1992 sends TA1 and TA2, 05 00, and the DS1982 takes them as the address of read status. Then the DS1992 sends ones (E/S,
+-- scratchpad), and the DS1982 the CRC of AA 05 00, status bytes 5 to 7, and their CRC
+abbrev pub readBoth : List ℕ
+readBoth =
     ds1992AndDs1982 (sramBody ds1992Code (0x05 ∷ 0x00 ∷ 0xFF ∷ []) (ones 32) (zeros 128))
     (epromBody ds1982Code (0xFF ∷ 0xFE ∷ 0xFD ∷ 0xFC ∷ 0xFB ∷ 0xFA ∷ 0xF9 ∷ 0x00 ∷ []) (ones 128))
 
 abbrev pub listener : List Row
 listener =
-    session senderAndListener
-    (skip (0xAA ∷ []) ++ read (0x05 ∷ 0x00 ∷ 0x63 ∷ 0xFA ∷ 0xF9 ∷ 0x00 ∷ 0xCC ∷ 0xFF ∷ []) ∷ [])
-    senderAndListener
+    session (writtenBoth (zeros 3) (zeros 32)) (skip (0x0F ∷ 0x05 ∷ 0x00 ∷ 0xA5 ∷ []) ++ read (0x3F ∷ []) ∷ [])
+    (writtenBoth (0x05 ∷ 0x00 ∷ 0x06 ∷ []) (placed 5 (0xA5 ∷ 0x3F ∷ []) (zeros 32)))
+    ∷ session readBoth (skip (0xAA ∷ []) ++ read (0x05 ∷ 0x00 ∷ 0x63 ∷ 0xFA ∷ 0xF9 ∷ 0x00 ∷ 0xCC ∷ 0xFF ∷ []) ∷ []) readBoth
     ∷ []
 
 -- ---- two devices under one probe
