@@ -4,6 +4,8 @@
 
 #include <errno.h>
 #include <fcntl.h>
+#include <stdarg.h>
+#include <stdio.h>
 #include <stdlib.h>
 #include <string.h>
 #include <unistd.h>
@@ -46,6 +48,24 @@ void bytes_repeat(struct bytes *b, uint8_t byte, size_t count)
     make_room(b, count);
     memset(b->data + b->length, byte, count);
     b->length += count;
+}
+
+void bytes_print(struct bytes *b, const char *format, ...)
+{
+    va_list arguments;
+
+    va_start(arguments, format);
+
+    const int length = vsnprintf(NULL, 0, format, arguments);
+
+    va_end(arguments);
+    if (length < 0)
+        out_of_memory();
+    make_room(b, (size_t)length + 1);
+    va_start(arguments, format);
+    vsnprintf((char *)b->data + b->length, (size_t)length + 1, format, arguments);
+    va_end(arguments);
+    b->length += (size_t)length;
 }
 
 void bytes_free(struct bytes *b)

@@ -12,6 +12,7 @@ struct bytes {
 
 void bytes_add(struct bytes *b, const void *more, size_t count);
 void bytes_repeat(struct bytes *b, uint8_t byte, size_t count);
+void bytes_print(struct bytes *b, const char *format, ...) __attribute__((format(printf, 2, 3)));
 void bytes_free(struct bytes *b);
 
 /* Memory for count elements, grown from old; never null. */

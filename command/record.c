@@ -4,7 +4,6 @@
 #include "status.h"
 #include "vcd.h"
 
-#include <stdlib.h>
 #include <string.h>
 
 /* How many of some paths are this one. */
@@ -30,36 +29,26 @@ FILE *record_report(const char *command, const struct record_paths *paths)
     return times_named(all, count, "-") ? stderr : stdout;
 }
 
-/* The waveform as text, to be freed. Returns DONE, or says why not. */
-static int vcd_text(char **text, size_t *length, const struct session *s, const struct bytes *answers)
-{
-    FILE *const stream = open_memstream(text, length);
-
-    if (!stream)
-        return bad_system("waveform");
-    vcd_write(stream, s, answers->data);
-    return fclose(stream) == 0 ? DONE : bad_system("waveform");
-}
-
 int record_write(const struct record_paths *paths, FILE *report, const struct session *s, const struct bytes *answers,
                  const struct bytes *image)
 {
     struct outputs outputs = { 0 };
-    char *vcd = NULL;
-    size_t vcd_length = 0;
-    int status = paths->vcd ? vcd_text(&vcd, &vcd_length, s, answers) : DONE;
+    struct bytes vcd = { 0 };
 
-    if (status == DONE)
-        status = outputs_stage(&outputs, paths->answers, answers->data, answers->length);
+    if (paths->vcd)
+        vcd_write(&vcd, s, answers->data);
+
+    int status = outputs_stage(&outputs, paths->answers, answers->data, answers->length);
+
     if (status == DONE)
         status = outputs_stage(&outputs, paths->trace, s->events.data, s->events.length);
     if (status == DONE)
-        status = outputs_stage(&outputs, paths->vcd, vcd, vcd_length);
+        status = outputs_stage(&outputs, paths->vcd, vcd.data, vcd.length);
     if (status == DONE)
         status = outputs_stage(&outputs, paths->image, image->data, image->length);
     if (status == DONE)
         status = outputs_commit(&outputs, report);
     outputs_free(&outputs);
-    free(vcd);
+    bytes_free(&vcd);
     return status;
 }

@@ -3,8 +3,6 @@
 #include "event.h"
 #include "progress.h"
 
-#include <string.h>
-
 /* Nominal times in microseconds, each within what the data sheets ask for. */
 enum {
     IDLE = 100,         /* before the first event and after the last */
@@ -27,7 +25,7 @@ static const char wires[WIRES] = { 'l', 'm', 'p' };
 static const char steps = 't';
 
 struct dump {
-    FILE *out;
+    struct bytes *out;
     unsigned long long now;
     unsigned long long stamped; /* the time last written, plus one */
 };
@@ -35,40 +33,40 @@ struct dump {
 static void stamp(struct dump *d)
 {
     if (d->stamped != d->now + 1)
-        fprintf(d->out, "#%llu\n", d->now);
+        bytes_print(d->out, "#%llu\n", d->now);
     d->stamped = d->now + 1;
 }
 
 static void set(struct dump *d, int wire, int level)
 {
     stamp(d);
-    fprintf(d->out, "%d%c\n", level, wires[wire]);
+    bytes_print(d->out, "%d%c\n", level, wires[wire]);
 }
 
-static void head(FILE *out)
+static void head(struct bytes *out)
 {
-    fprintf(out,
-            "$version troughiron $end\n"
-            "$comment 1-Wire at standard speed, nominal widths $end\n"
-            "$timescale 1 us $end\n"
-            "$scope module bench $end\n"
-            "$var wire 1 %c line $end\n"
-            "$var wire 1 %c master $end\n"
-            "$var wire 1 %c pulse $end\n"
-            "$var string 1 %c step $end\n"
-            "$upscope $end\n"
-            "$enddefinitions $end\n",
-            wires[LINE], wires[MASTER], wires[PULSES], steps);
+    bytes_print(out,
+                "$version troughiron $end\n"
+                "$comment 1-Wire at standard speed, nominal widths $end\n"
+                "$timescale 1 us $end\n"
+                "$scope module bench $end\n"
+                "$var wire 1 %c line $end\n"
+                "$var wire 1 %c master $end\n"
+                "$var wire 1 %c pulse $end\n"
+                "$var string 1 %c step $end\n"
+                "$upscope $end\n"
+                "$enddefinitions $end\n",
+                wires[LINE], wires[MASTER], wires[PULSES], steps);
 }
 
 /* A string has no blanks in a dump. */
 static void mark(struct dump *d, const struct session *s, const struct step *step)
 {
     stamp(d);
-    fprintf(d->out, "s%s_%zu:_", s->unit, step->line);
+    bytes_print(d->out, "s%s_%zu:_", s->unit, step->line);
     for (const char *c = step->text; *c; c++)
-        fputc(*c > ' ' && *c <= '~' ? *c : '_', d->out);
-    fprintf(d->out, " %c\n", steps);
+        bytes_repeat(d->out, *c > ' ' && *c <= '~' ? (uint8_t)*c : '_', 1);
+    bytes_print(d->out, " %c\n", steps);
 }
 
 /* Lets go of the line: the master after one time, the wire after another, and nothing more up to the end. */
@@ -129,17 +127,17 @@ static void draw(struct dump *d, uint8_t event, uint8_t answer)
 static void start(struct dump *d)
 {
     head(d->out);
-    fprintf(d->out, "#0\n$dumpvars\n1%c\n1%c\n0%c\nsidle %c\n$end\n", wires[LINE], wires[MASTER], wires[PULSES], steps);
+    bytes_print(d->out, "#0\n$dumpvars\n1%c\n1%c\n0%c\nsidle %c\n$end\n", wires[LINE], wires[MASTER], wires[PULSES], steps);
     d->now = IDLE;
 }
 
 static void finish(struct dump *d)
 {
     stamp(d);
-    fprintf(d->out, "sidle %c\n#%llu\n", steps, d->now + IDLE);
+    bytes_print(d->out, "sidle %c\n#%llu\n", steps, d->now + IDLE);
 }
 
-void vcd_write(FILE *out, const struct session *s, const uint8_t *answers)
+void vcd_write(struct bytes *out, const struct session *s, const uint8_t *answers)
 {
     struct dump d = { .out = out };
     struct progress progress = progress_start("events drawn", s->events.length);
