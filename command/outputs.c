@@ -1,6 +1,7 @@
 #include "outputs.h"
 
 #include "bytes.h"
+#include "interrupt.h"
 #include "status.h"
 
 #include <errno.h>
@@ -23,7 +24,7 @@ static int write_all(int file, const void *bytes, size_t length, const char *nam
     while (length > 0) {
         const ssize_t count = write(file, next, length);
 
-        if (count < 0 && errno == EINTR)
+        if (count < 0 && errno == EINTR && !interrupted())
             continue;
         if (count < 0)
             return bad_system(name);
@@ -112,33 +113,37 @@ int outputs_stage(struct outputs *o, const char *path, const void *bytes, size_t
     struct output *const new = &o->list[o->count++];
 
     *new = (struct output){ .path = path, .bytes = bytes, .length = length };
+    interrupt_defer();
     return strcmp(path, "-") == 0 ? DONE : stage_file(new);
 }
 
 /* ------------------------------------------------------------------ */
 /* Into place                                                          */
 
-/* Makes a renamed file last through a loss of power, where the system can. */
-static void sync_folder(const char *place)
+/* Makes a renamed file last through a loss of power, where the system can. The name, which is beside the place, is used up. */
+static void sync_folder(char *name)
 {
-    char *const folder = copied(place);
-    char *const slash = strrchr(folder, '/');
+    char *const slash = strrchr(name, '/');
 
     if (slash)
-        slash[slash == folder] = '\0';
+        slash[slash == name] = '\0';
 
-    const int file = open(slash ? folder : ".", O_RDONLY);
+    const int file = open(slash ? name : ".", O_RDONLY);
 
     if (file >= 0) {
         (void)fsync(file);
         close(file);
     }
-    free(folder);
+    *name = '\0';
 }
 
 static int write_place(const struct output *o)
 {
     const bool standard = strcmp(o->path, "-") == 0;
+
+    if (interrupted())
+        return BAD;
+
     const int file = standard ? STDOUT_FILENO : open(o->place, O_WRONLY);
 
     if (file < 0)
@@ -157,8 +162,7 @@ static int put_into_place(struct output *o)
         return write_place(o);
     if (rename(o->temporary, o->place) != 0)
         return bad_system(o->path);
-    *o->temporary = '\0';
-    sync_folder(o->place);
+    sync_folder(o->temporary);
     return DONE;
 }
 
@@ -188,6 +192,8 @@ int outputs_commit(struct outputs *o, FILE *report)
 
     if (status == DONE)
         status = commit_those(o, false);
+    if (status == DONE && interrupted())
+        status = BAD;
     return status == DONE ? commit_those(o, true) : status;
 }
 
@@ -200,4 +206,5 @@ void outputs_free(struct outputs *o)
         free(o->list[i].place);
     }
     o->count = 0;
+    interrupt_allow();
 }

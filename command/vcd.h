@@ -6,8 +6,8 @@
 #include "session.h"
 
 /*
- * Adds the waveform to out. Times are in microseconds at standard speed. Signals: line, what the wire does; master, what the master alone does to it; pulse, the
- * program pulse; step, the text of the step, blanks as underscores.
+ * Adds the waveform to out. Times are in microseconds at standard speed. Signals: line, what the wire does; master, what the master alone
+ * does to it; pulse, the program pulse; step, the text of the step, blanks as underscores.
  */
 void vcd_write(struct bytes *out, const struct session *s, const uint8_t *answers);
 
