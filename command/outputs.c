@@ -82,17 +82,47 @@ static int stage_beside(struct output *o, mode_t mode)
     return fill_temporary(o, mode);
 }
 
+/* The path with its folder's links followed, so that two names of a place compare equal; null, with the cause in errno, with no such folder. */
+static char *place_of_new(const char *path)
+{
+    const char *const slash = strrchr(path, '/');
+    const char *const name = slash ? slash + 1 : path;
+    char *const folder = copied(slash ? path : ".");
+
+    if (slash)
+        folder[slash - path + (slash == path)] = '\0';
+
+    char *const real = realpath(folder, NULL);
+    char *const place = real ? grown(NULL, strlen(real) + strlen(name) + 2, 1) : NULL;
+
+    if (place)
+        strcat(strcat(strcpy(place, real), real[1] ? "/" : ""), name);
+    free(real);
+    free(folder);
+    return place;
+}
+
+/* A link to nothing and a path of no name are no places for a file. */
+static int stage_new(struct output *o)
+{
+    struct stat link;
+    const size_t length = strlen(o->path);
+
+    if (length == 0 || o->path[length - 1] == '/' || lstat(o->path, &link) == 0) {
+        errno = ENOENT;
+        return bad_system(o->path);
+    }
+    o->place = place_of_new(o->path);
+    return o->place ? stage_beside(o, new_mode()) : bad_system(o->path);
+}
+
 /* A new file, or one that is there and may be written. */
 static int stage_file(struct output *o)
 {
     struct stat there;
 
-    if (stat(o->path, &there) != 0) {
-        if (errno != ENOENT)
-            return bad_system(o->path);
-        o->place = copied(o->path);
-        return stage_beside(o, new_mode());
-    }
+    if (stat(o->path, &there) != 0)
+        return errno == ENOENT ? stage_new(o) : bad_system(o->path);
     if (S_ISDIR(there.st_mode)) {
         errno = EISDIR;
         return bad_system(o->path);
@@ -105,6 +135,15 @@ static int stage_file(struct output *o)
     return S_ISREG(there.st_mode) ? stage_beside(o, there.st_mode & 07777) : DONE;
 }
 
+/* Two names of one place would leave one file of two. */
+static int place_is_free(const struct outputs *o, const struct output *new)
+{
+    for (const struct output *old = o->list; old < new; old++)
+        if (old->temporary && new->temporary && strcmp(old->place, new->place) == 0)
+            return bad("%s: the same file as %s", new->path, old->path);
+    return DONE;
+}
+
 int outputs_stage(struct outputs *o, const char *path, const void *bytes, size_t length)
 {
     if (!path)
@@ -114,7 +153,10 @@ int outputs_stage(struct outputs *o, const char *path, const void *bytes, size_t
 
     *new = (struct output){ .path = path, .bytes = bytes, .length = length };
     interrupt_defer();
-    return strcmp(path, "-") == 0 ? DONE : stage_file(new);
+
+    const int status = strcmp(path, "-") == 0 ? DONE : stage_file(new);
+
+    return status == DONE ? place_is_free(o, new) : status;
 }
 
 /* ------------------------------------------------------------------ */

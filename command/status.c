@@ -36,7 +36,7 @@ int bad_line(const char *file, size_t line, const char *format, ...)
 
 int bad_system(const char *file)
 {
-    return bad("%s: %s", file, strerror(errno));
+    return bad("%s: %s", *file ? file : "''", strerror(errno));
 }
 
 int bad_usage(const char *command, const char *format, ...)
