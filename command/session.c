@@ -85,11 +85,29 @@ static char *next_word(struct reader *r)
     return *word ? word : NULL;
 }
 
+/* Words for a message: the start of a long one, and bytes that are no printable ASCII by number. */
+enum { SHOWN = 40, SHOWN_ROOM = 4 * SHOWN + sizeof "..." };
+
+static const char *shown(char room[SHOWN_ROOM], const char *text)
+{
+    size_t at = 0;
+
+    for (size_t i = 0; i < SHOWN && text[i]; i++) {
+        const bool printable = text[i] >= ' ' && text[i] <= '~';
+
+        at += (size_t)snprintf(room + at, SHOWN_ROOM - at, printable ? "%c" : "\\x%02X", (unsigned char)text[i]);
+    }
+    snprintf(room + at, SHOWN_ROOM - at, "%s", strlen(text) > SHOWN ? "..." : "");
+    return room;
+}
+
 static int wrong(const struct reader *r, const char *step, const char *expected, const char *found)
 {
+    char room[SHOWN_ROOM];
+
     if (!found)
         return bad_line(r->session->name, r->line, "%s: %s expected", step, expected);
-    return bad_line(r->session->name, r->line, "%s: %s expected, not '%s'", step, expected, found);
+    return bad_line(r->session->name, r->line, "%s: %s expected, not '%s'", step, expected, shown(room, found));
 }
 
 static int nothing_after(struct reader *r, const char *step)
@@ -133,10 +151,11 @@ static int read_skip(struct reader *r)
 static int device_code(struct reader *r, uint8_t code[CODE_SIZE], const char *word)
 {
     const size_t count = image_count(r->image);
+    char room[SHOWN_ROOM];
     size_t number;
 
     if (!number_parse(&number, word + 1, count) || number == 0)
-        return bad_line(r->session->name, r->line, "match: there is no device '%s'; the image has %zu", word, count);
+        return bad_line(r->session->name, r->line, "match: there is no device '%s'; the image has %zu", shown(room, word), count);
     memcpy(code, image_device(r->image, number - 1).body, CODE_SIZE);
     return DONE;
 }
@@ -231,11 +250,12 @@ static int read_step(struct reader *r)
         { "bits", read_bits },   { "read", read_read }, { "pulse", read_pulse }, { "events", read_events },
     };
     const char *const word = next_word(r);
+    char room[SHOWN_ROOM];
 
     for (size_t i = 0; i < sizeof steps / sizeof *steps; i++)
         if (strcmp(word, steps[i].word) == 0)
             return steps[i].read(r);
-    return bad_line(r->session->name, r->line, "unknown step '%s'", word);
+    return bad_line(r->session->name, r->line, "unknown step '%s'", shown(room, word));
 }
 
 /* Where a comment starts, or the end: # at the start of a line, or # with a blank or nothing after it; "#2" is a device. */
@@ -260,11 +280,19 @@ static void cut_comment(char *line)
     *end = '\0';
 }
 
+/* In a step, and so in the report, every blank is a space. */
+static void level_blanks(char *line)
+{
+    while ((line = strpbrk(line, blanks)))
+        *line++ = ' ';
+}
+
 static int read_line(struct session *s, const struct bytes *image, size_t number, char *line)
 {
     struct reader r = { .session = s, .image = image, .line = number, .rest = line };
 
     cut_comment(line);
+    level_blanks(line);
     line += strspn(line, blanks);
     if (!*line)
         return DONE;
