@@ -54,7 +54,7 @@ int main(int argc, char **argv)
     if (strcmp(argv[1], "--help") == 0 || strcmp(argv[1], "-h") == 0)
         return print(help_text(""));
 
-    struct words words = { .command = argv[1], .list = (const char **)(argv + 2), .count = (size_t)(argc - 2) };
+    struct words words = { .command = argv[1], .list = argv + 2, .count = (size_t)(argc - 2) };
 
     return dispatch(&words);
 }

@@ -15,7 +15,7 @@ struct option {
 /* The words that follow a subcommand's name. */
 struct words {
     const char *command;
-    const char **list;
+    char **list;
     size_t count;
 };
 
