@@ -1,4 +1,5 @@
--- Document 01, 'ROM stage': bits go least significant first. A level is a Bool, false is 0; a byte is a number below 256.
+-- Document 01, 'ROM stage' and 'Registration code and CRC': bits go least significant first. A level is a Bool, false is 0; a byte is a number
+-- below 256. Past the end of bytes every bit is 0, and one put there changes nothing.
 use Prim.Native.Nat.{ℕ, _+_, _-_, _/_, _%_, _^_}
 use mathlib.Core.Bool.{Bool, true, false, cond}
 use mathlib.Core.List.{List}

@@ -41,7 +41,7 @@ unfoldable pub isReset : ℕ → Bool
 isReset byte = eqb byte reset
 
 unfoldable pub isSlot : ℕ → Bool
-isSlot byte = ltb byte reset
+isSlot byte = ltb byte 2
 
 unfoldable pub resetsIn : List ℕ → ℕ
 resetsIn [] = 0

@@ -1,5 +1,5 @@
--- Document 01, 'The searching master' and refusals 7 to 10: a fresh master that is stepped with recorded levels. Each level is the one
--- of the event just sent.
+-- Document 01, 'The searching master' and refusals 8 to 10: a fresh master that is stepped with recorded levels, each the one of the event just
+-- sent. A call for it, and the room that it asks and refuses with 7, are our own: document 01's 7 is of the run and the search.
 use Prim.Native.Nat.{ℕ, _+_, _*_, _/_, min}
 use mathlib.Core.Bool.{Bool, cond, _||_}
 use mathlib.Core.List.{List, [], _∷_, _++_}
@@ -57,7 +57,7 @@ traceRoom levels = min (levels + 1) (mostPasses * passEvents)
 unfoldable pub codeRoom : ℕ → ℕ
 codeRoom levels = codeBytes * min (levels / passEvents) mostPasses
 
--- 7: too little room for the trace or the codes
+-- our own 7: too little room for the trace or the codes
 unfoldable pub roomRefused : List ℕ → List ℕ → List ℕ → Bool
 roomRefused levels trace codes = ltb (length trace) (traceRoom (length levels)) || ltb (length codes) (codeRoom (length levels))
 

@@ -1,5 +1,5 @@
 -- Document 01, 'ROM stage': the level that a device sends in a slot, and its stage after one. The registration code is the first 8 bytes
--- of the body.
+-- of the body. A stage is taken as it is: that its numbers are in range and its body has its kind's size is for the crate `device` to see to.
 use Prim.Native.Nat.{ℕ, _+_}
 use mathlib.Core.Bool.{Bool, true, cond, not, Bool·beq}
 use mathlib.Core.List.{List}

@@ -1,4 +1,4 @@
--- What the functions of `src/` below `search` do and ask.
+-- Not from document 01: what the functions of `src/` below `search` do and ask. A reader of what a search does can skip it.
 use Prim.Native.Nat.{ℕ, _*_, _≤_}
 use mathlib.Core.Path.{_≡_}
 use mathlib.Core.Bool.{Bool, true, false}

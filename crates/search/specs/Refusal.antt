@@ -1,4 +1,5 @@
--- Document 01, 'Refusals in order': the causes of a search, each over the whole input: the image's, and 7.
+-- Document 01, 'Refusals in order': the causes of a search, each over the whole input: the image's, and 7. That fewer than n lent line states are
+-- a 7 too is our own cause, as document 01's search is lent none; the host's search, which has 64 of its own, never meets it.
 use Prim.Native.Nat.{ℕ, _*_}
 use mathlib.Core.Bool.{Bool, cond, _||_}
 use mathlib.Core.List.{List, [], _∷_, _++_}
@@ -12,7 +13,7 @@ use Rattle.master.specs.Drive.{passEvents}
 unfoldable pub traceRoom : ℕ → ℕ
 traceRoom n = cond (eqb n 0) 1 (passEvents * n)
 
--- 7: code room under 8n or trace room under 201n, at least 1; with lent line states, fewer than n
+-- 7: code room under 8n or trace room under 201n, at least 1; our own: fewer than n lent line states
 unfoldable pub noRoom : List ℕ → ℕ → ℕ → ℕ → Bool
 noRoom image codes trace lines = ltb codes (codeBytes * countOf image) || ltb trace (traceRoom (countOf image)) || ltb lines (countOf image)
 

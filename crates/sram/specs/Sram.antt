@@ -1,5 +1,6 @@
 -- Document 01, 'DS1992/DS1993 memory stage': the level that a device sends in a slot, its stage after one, and the body after a slot or a
--- reset. A device that sends ones until a reset is waiting.
+-- reset. A device that sends ones until a reset is waiting. A stage is taken as it is: that its numbers are in range and its body has its
+-- kind's size is for the crate `device` to see to.
 use Prim.Native.Nat.{ℕ, _+_, _*_, _%_}
 use mathlib.Core.Bool.{Bool, true, false, cond, _&&_, Bool·beq}
 use mathlib.Core.List.{List}

@@ -1,4 +1,5 @@
--- Document 01, 'What stands on the bench': the host is a C program; its run and its search hold 64 line states of their own.
+-- Document 01, 'What stands on the bench': the host is a C program, whose run holds 64 line states of its own. That its search holds 64 too is our
+-- own choice.
 use Prim.Native.Nat.{ℕ, zero, suc}
 use mathlib.Core.Path.{_≡_}
 use mathlib.Core.List.{List}
