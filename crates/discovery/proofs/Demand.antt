@@ -222,6 +222,7 @@ claim image {trace} {codes} ok w d =
       first = λ level. (fresh-step level, driven-first (d .driven) (w .some));
       next = λ i h. driven-next (d .driven) i h;
       last = λ i h. ap says (driven-end (d .driven) i h) ∙ d .ended;
+      handed-back = driven-last (d .driven);
       ended = d .ended;
       seen = refl;
       seen-size = run-length trace (waitingDevices image);

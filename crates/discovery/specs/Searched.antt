@@ -40,6 +40,7 @@ pub record Searched (image : List ℕ) (s : Search) : Type 0 where
   -- the step given the last level gives the end, with no number, and hands back the master that is left
   pub last : (i : ℕ) → suc i ≡ length (s .trace)
       → says (nextOf (lastFrom started (take i (s .levels))) (getD (s .levels) i 0)) ≡ end 0
+  pub handed-back : lastFrom started (s .levels) ≡ s .master
   pub ended : says (s .master) ≡ end 0
   -- the levels that the master saw are the answers of the run of the trace on the same image, one for each event
   pub seen : s .levels ≡ runOn image (s .trace) .answers
