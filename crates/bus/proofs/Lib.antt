@@ -1,3 +1,4 @@
+pub mod Idle
 pub mod Again
 pub mod Kept
 pub mod Laws

@@ -8,6 +8,10 @@ use lib.Dec.{ltb, leb}
 use Rattle.kind.specs.declared.Kind.the-variants.{Unknown}
 use Rattle.kind.specs.Kind.{bodySize}
 use Rattle.image.specs.Image.{countOf, kindAt, offsetAt}
+use Rattle.line.specs.declared.RomStage.{RomStage}
+use Rattle.line.specs.declared.RomStage.the-variants.{Waiting, Command, Read, Match, Search}
+use Rattle.line.specs.declared.Stage.{Stage}
+use Rattle.line.specs.declared.Stage.the-variants.{Rom, Memory}
 use Rattle.device.specs.declared.LineState.{LineState}
 use Rattle.device.specs.Device.{waitingState, sendsOf}
 use Rattle.bus.specs.declared.Event.{Event}
@@ -16,6 +20,21 @@ use Rattle.bus.specs.declared.Place.{Place}
 use Rattle.bus.specs.Bus.{Device, deviceOf, eventOf, levelOf, nextState, nextBody, answerOf}
 
 -- ---- one device
+
+-- a device that waits has no part in a slot
+unfoldable pub isWaiting : RomStage → Bool
+isWaiting Waiting = true
+isWaiting (Command bits value) = false
+isWaiting (Read at) = false
+isWaiting (Match at) = false
+isWaiting (Search at slot) = false
+
+unfoldable pub waitsIn : Stage → Bool
+waitsIn (Rom r) = isWaiting r
+waitsIn (Memory m) = false
+
+unfoldable pub idleIn : ℕ → LineState → Bool
+idleIn byte state = ltb byte 2 && waitsIn (state .stage)
 
 -- where the body of device i lies, and its kind. A device that the image does not have, or has no room for, has an empty body and no kind
 unfoldable pub placeOf : List ℕ → ℕ → Place

@@ -4,6 +4,8 @@
 // image and its line state; the loops over all devices, over the trace, and the run above them only fetch, call and store.
 use device::LineState;
 use kind::Kind;
+use line::RomStage;
+use line::Stage;
 ghost use mathlib.Core.Path.{_≡_};
 ghost use Prim.Native.Nat.{_≤_};
 ghost use mathlib.Core.Bool.{not, _&&_};
@@ -14,7 +16,7 @@ ghost use Rattle.image.specs.Refusal.{someBelow};
 ghost use Rattle.bus.specs.Bus.{deviceOf, eventOf, nextState, nextBody};
 ghost use Rattle.bus.specs.Refusal.{someByte, badTrace, isEprom, badPulse, noRoom, runRefusal};
 ghost use Rattle.bus.specs.Run.{Leaves, runOf};
-ghost use Rattle.bus.specs.Loops.{placeOf, deviceAt, deviceIn, masterLevel, deviceLevel, turnState, turnImage, servedOf, levelOn, statesAfter, busState, turns, filled, runState, events};
+ghost use Rattle.bus.specs.Loops.{isWaiting, waitsIn, idleIn, placeOf, deviceAt, deviceIn, masterLevel, deviceLevel, turnState, turnImage, servedOf, levelOn, statesAfter, busState, turns, filled, runState, events};
 ghost use Rattle.device.specs.Device.{waitingState};
 
 // An event on the line: a slot in which the master sends a bit, a reset, or a program pulse.
@@ -49,6 +51,40 @@ fn event_of(byte: u8) -> Event
         2 => Event::Reset,
         _ => Event::Pulse,
     }
+}
+
+// A ROM stage is the one of a device that waits.
+fn is_waiting(r: RomStage) -> bool
+    ensures { λ r′. ⌜ r′ ≡ isWaiting r ⌝ }
+{
+    match r {
+        RomStage::Waiting => true,
+        RomStage::Command { bits: _, value: _ } => false,
+        RomStage::Read { at: _ } => false,
+        RomStage::Match { at: _ } => false,
+        RomStage::Search { at: _, slot: _ } => false,
+    }
+}
+
+// A device waits for a reset.
+fn waits(state: LineState) -> bool
+    ensures { λ r. ⌜ r ≡ waitsIn (state .stage) ⌝ }
+{
+    let stage = state.stage;
+    match stage {
+        Stage::Rom(r) => is_waiting(r),
+        Stage::Memory(_) => false,
+    }
+}
+
+// A device that waits has no part in a slot: it is passed over before its place is looked for.
+fn is_idle(byte: u8, state: LineState) -> bool
+    ensures { λ r. ⌜ r ≡ idleIn byte state ⌝ }
+{
+    if byte < 2 {
+        return waits(state);
+    }
+    false
 }
 
 fn wide(byte: u8) -> usize
@@ -107,6 +143,9 @@ fn level_with(image: &[u8], i: usize, state: LineState, byte: u8, level: bool) -
     if !level {
         return false;
     }
+    if is_idle(byte, state) {
+        return true;
+    }
     let place = place_of(image, i);
     let kind = place.kind;
     let start = place.start;
@@ -129,6 +168,9 @@ fn device_state(byte: u8, level: bool, state: LineState, kind: Kind, body: &[u8]
 fn state_after(image: &[u8], i: usize, state: LineState, byte: u8, level: bool) -> LineState
     ensures { λ r. ⌜ r ≡ turnState (now (image .entry)) i state byte level ⌝ }
 {
+    if is_idle(byte, state) {
+        return state;
+    }
     let place = place_of(image, i);
     let kind = place.kind;
     let start = place.start;
@@ -155,6 +197,9 @@ fn device_next(byte: u8, level: bool, state: LineState, kind: Kind, body: &mut [
 fn turn(image: &mut [u8], i: usize, state: LineState, byte: u8, level: bool) -> LineState
     ensures { λ r. ⌜ (r ≡ turnState (now (image .entry)) i state byte level) × (now (image .exit) ≡ turnImage (now (image .entry)) i state byte level) ⌝ }
 {
+    if is_idle(byte, state) {
+        return state;
+    }
     let place = place_of(image, i);
     let kind = place.kind;
     let start = place.start;

@@ -24,7 +24,7 @@ use Rattle.rom.proofs.Laws as rom
 use Rattle.sram.proofs.Laws as sram
 use Rattle.eprom.proofs.Pulses as eprom
 use Rattle.device.specs.declared.LineState.{LineState}
-use Rattle.device.specs.Device.{sizeOf, stageRange, stageSends, stageStep, memoryWrite, stageWrite, memoryReset, stageReset, memoryProgram, stageProgram, stateOf, taken, sendsOf, stepOf, writeOf, resetBody, programOf}
+use Rattle.device.specs.Device.{sizeOf, stageRange, stageSends, stageStep, memoryWrite, stageWrite, memoryReset, stageReset, memoryProgram, stageProgram, stateOf, waitingState, taken, sendsOf, stepOf, writeOf, resetBody, programOf}
 
 -- ---- what nothing on the line changes: a body's length, and its registration code
 
@@ -102,6 +102,29 @@ module _ (r : RomStage) (kind : Kind) (body : List ℕ) where
       choose : (t : Bool) → stageReset (cond t (Rom r) waiting) body ≡ body
       choose true = refl
       choose false = refl
+
+-- ---- a device that waits: it sends 1 and goes on waiting
+
+module _ (kind : Kind) (body : List ℕ) where
+  waiting-taken : taken waitingState kind body ≡ waiting
+  unfolding taken
+  waiting-taken = choose (eqb (length body) (bodySize kind) && stageRange waiting kind)
+    where
+      choose : (t : Bool) → cond t waiting waiting ≡ waiting
+      choose true = refl
+      choose false = refl
+
+  pub waiting-sends : sendsOf waitingState kind body ≡ true
+  unfolding sendsOf stageSends romSends
+  waiting-sends = ap (λ (s : Stage). stageSends s body) waiting-taken
+
+  pub waiting-step : (level : Bool) → stepOf waitingState kind body level ≡ waitingState
+  unfolding stepOf stageStep romStep
+  waiting-step level = ap (λ (s : Stage). stateOf (stageStep s kind body level)) waiting-taken
+
+  pub waiting-write : (level : Bool) → writeOf waitingState kind body level ≡ body
+  unfolding writeOf stageWrite
+  waiting-write level = ap (λ (s : Stage). stageWrite s kind body level) waiting-taken
 
 -- in range and with a body of its kind's size, it is taken as it is
 module _ (r : RomStage) (kind : Kind) (body : List ℕ) (sized : length body ≡ bodySize kind) (ranged : romRange r ≡ true) where
