@@ -13,7 +13,7 @@ enum {
     RESET_LOW = 480,
     PRESENCE_HIGH = 30, /* until the devices answer a reset */
     PRESENCE_LOW = 120,
-    RESET_HIGH = 480,   /* the presence included */
+    RESET_HIGH = 500,   /* the presence included; 480 at least, and decoders want the next slot past it */
     PULSE_DELAY = 10,   /* before a program pulse, and after it */
     PULSE = 480
 };
