@@ -60,7 +60,7 @@ static const char *name_of(uint8_t family)
     return "?";
 }
 
-/* A code as it is engraved: family, serial number, CRC, the highest byte of the serial number first. */
+/* A code as a person reads it: family, serial number, CRC, the highest byte of the serial number first. */
 static void print_code(const uint8_t *code)
 {
     printf("%02X ", code[0]);
