@@ -14,11 +14,11 @@ bitOf b i = eqb (b / 2 ^ i % 2) 1
 abbrev pub byteOf : ℕ → ℕ
 byteOf i = i / 8
 
-abbrev pub placeOf : ℕ → ℕ
-placeOf i = i % 8
+abbrev pub bitPlace : ℕ → ℕ
+bitPlace i = i % 8
 
 unfoldable pub bitAt : List ℕ → ℕ → Bool
-bitAt s i = bitOf (getD s (byteOf i) 0) (placeOf i)
+bitAt s i = bitOf (getD s (byteOf i) 0) (bitPlace i)
 
 -- the byte b with bit i at a level, the others as they were; a byte has bits 0 to 7 only
 unfoldable pub atLevel : ℕ → ℕ → Bool → ℕ
@@ -30,7 +30,7 @@ withBit b i level = cond (leb 8 i) b (atLevel b i level)
 
 -- the bytes s with bit i at a level
 unfoldable pub putBit : List ℕ → ℕ → Bool → List ℕ
-putBit s i level = set s (byteOf i) (withBit (getD s (byteOf i) 0) (placeOf i) level)
+putBit s i level = set s (byteOf i) (withBit (getD s (byteOf i) 0) (bitPlace i) level)
 
 -- a register of so many bits, shifted down by one place, with a level at its top
 unfoldable pub shiftIn : ℕ → ℕ → Bool → ℕ

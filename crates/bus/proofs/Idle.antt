@@ -19,7 +19,7 @@ use Rattle.bus.specs.declared.Event.{Event}
 use Rattle.bus.specs.declared.Event.the-variants.{Slot, Reset, Pulse}
 use Rattle.bus.specs.declared.Place.{Place}
 use Rattle.bus.specs.Bus.{Device, eventOf, nextState, nextBody}
-use Rattle.bus.specs.Loops.{isWaiting, waitsIn, idleIn, placeOf, deviceAt, deviceIn, withBody, deviceLevel, turnState, turnImage}
+use Rattle.bus.specs.Loops.{isWaiting, waitsIn, idleIn, placeIn, deviceAt, deviceIn, withBody, deviceLevel, turnState, turnImage}
 use Rattle.bus.proofs.Laws.{Inside, place-inside}
 
 both : (a b : Bool) → (a && b) ≡ true → (a ≡ true) × (b ≡ true)
@@ -75,7 +75,7 @@ module _ (byte : ℕ) (state : LineState) (idle : idleIn byte state ≡ true) wh
 
     pub idle-image : (level : Bool) → image ≡ turnImage image i state byte level
     unfolding turnImage nextBody deviceIn deviceAt
-    idle-image level = slot-is (λ (v : Event). image ≡ withBody image (placeOf image i) (nextBody v level d)) byte (unfolded .0)
-        (λ sent. sym (ap (λ (s : LineState). withBody image (placeOf image i) (nextBody (Slot sent) level (deviceIn image i s))) (unfolded .1)
-        ∙ ap (withBody image (placeOf image i)) (waiting-write _ _ level)
-        ∙ same-body (placeOf image i) (place-inside image i)))
+    idle-image level = slot-is (λ (v : Event). image ≡ withBody image (placeIn image i) (nextBody v level d)) byte (unfolded .0)
+        (λ sent. sym (ap (λ (s : LineState). withBody image (placeIn image i) (nextBody (Slot sent) level (deviceIn image i s))) (unfolded .1)
+        ∙ ap (withBody image (placeIn image i)) (waiting-write _ _ level)
+        ∙ same-body (placeIn image i) (place-inside image i)))

@@ -13,7 +13,7 @@ use Rattle.image.proofs.Accepted.{Known, accepted-known, known-accepted, code-l
 use Rattle.device.specs.declared.LineState.{LineState}
 use Rattle.bus.specs.Bus.{Device, runTrace}
 use Rattle.bus.specs.Refusal.{runRefusal}
-use Rattle.bus.specs.Run.{waitingDevices, headerOf, bodiesOf, leftBy, runAt, runOf}
+use Rattle.bus.specs.Run.{waitingDevices, headerOf, bodiesOf, leftByRun, runAt, runOf}
 use Rattle.bus.proofs.Runs.{run-same, same-length}
 use Rattle.bus.proofs.Shown.{Stand, stand-same, nobody, packed-bodies, imageOf, header-length, header-at, count-kept, family-kept, kind-kept, offset-kept, entered, start-is, image-split, waiting-all, waiting-stands}
 
@@ -100,8 +100,8 @@ module _ (image : List ℕ) (known : Known image) where
 
 -- ---- a run
 
-run-kept-at : (number : ℕ) (trace image answers : List ℕ) (lines : List LineState) → imageRefusal image ≡ 0 → Kept image (runAt number trace image answers lines .image)
-unfolding runAt leftBy
+run-kept-at : (number : ℕ) (trace image answers : List ℕ) (lines : List LineState) → imageRefusal image ≡ 0 → Kept image (runAt number image trace answers lines .image)
+unfolding runAt leftByRun
 run-kept-at zero trace image answers lines e =
     let known = accepted-known image e in
     let same = run-same trace (waitingDevices image) in
@@ -109,6 +109,6 @@ run-kept-at zero trace image answers lines e =
 run-kept-at (suc number) trace image answers lines e = record { accepted = e; size = refl; count = refl; header = refl; code = λ i h. refl }
 
 -- whether it is refused or not
-pub run-kept : (trace image answers : List ℕ) (lines : List LineState) → imageRefusal image ≡ 0 → Kept image (runOf trace image answers lines .image)
+pub run-kept : (trace image answers : List ℕ) (lines : List LineState) → imageRefusal image ≡ 0 → Kept image (runOf image trace answers lines .image)
 unfolding runOf
 run-kept trace image answers lines e = run-kept-at (runRefusal image trace (length answers) (length lines)) trace image answers lines e

@@ -15,10 +15,10 @@ use Rattle.kind.specs.Kind.{bodySize}
 use Rattle.image.specs.Image.{countOf, kindAt, offsetAt}
 use Rattle.image.specs.Refusal.{Cause, cause, firstOf, imageCauses, imageRefusal}
 use Rattle.device.specs.declared.LineState.{LineState}
-use Rattle.bus.specs.Refusal.{someByte, badTrace, badPulse, noRoom, runCauses, runRefusal}
+use Rattle.bus.specs.Refusal.{someByte, badTrace, badPulse, noRunRoom, runCauses, runRefusal}
 use Rattle.bus.specs.declared.Place.{Place}
 use Rattle.bus.specs.Bus.{eventOf, nextBody}
-use Rattle.bus.specs.Loops.{placeOf, deviceAt, deviceIn, withBody, turnImage, lineAt, servedOf, BusState, turnAt, turns, filled, RunState, eventAt, events}
+use Rattle.bus.specs.Loops.{placeIn, deviceAt, deviceIn, withBody, turnImage, lineAt, servedOf, BusState, turnAt, turns, filled, RunState, eventAt, events}
 use Rattle.bus.proofs.Runs.{next-length}
 
 -- ---- the place of a body
@@ -34,11 +34,11 @@ place-inside-at image i true true e = record { rising = omega arith; within = le
 place-inside-at image i true false e = record { rising = omega arith; within = omega arith }
 place-inside-at image i false b e = record { rising = omega arith; within = omega arith }
 
-pub place-inside : (image : List ℕ) (i : ℕ) → Inside (placeOf image i) (length image)
-unfolding placeOf
+pub place-inside : (image : List ℕ) (i : ℕ) → Inside (placeIn image i) (length image)
+unfolding placeIn
 place-inside image i = place-inside-at image i (ltb i (countOf image)) (leb (offsetAt image i + bodySize (kindAt image i)) (length image)) refl
 
-pub inside-of : (image : List ℕ) (i : ℕ) (place : Place) → place ≡ placeOf image i → Inside place (length image)
+pub inside-of : (image : List ℕ) (i : ℕ) (place : Place) → place ≡ placeIn image i → Inside place (length image)
 inside-of image i place e = subst (λ (p : Place). Inside p (length image)) (sym e) (place-inside image i)
 
 -- ---- a test at some byte of a trace
@@ -87,10 +87,10 @@ first-none (c ∷ cs) ds n h = none-then (c .applies) (c .number) (firstOf (cs +
 
 -- of an image that is not refused
 pub run-causes : (image trace : List ℕ) (answers lines : ℕ) → imageRefusal image ≡ 0
-    → runRefusal image trace answers lines ≡ cond (badTrace trace) 5 (cond (badPulse image trace) 6 (cond (noRoom image trace answers lines) 7 0))
+    → runRefusal image trace answers lines ≡ cond (badTrace trace) 5 (cond (badPulse image trace) 6 (cond (noRunRoom image trace answers lines) 7 0))
 unfolding runRefusal runCauses imageCauses imageRefusal firstOf
 run-causes image trace answers lines h =
-    first-none (imageCauses image) (cause 5 (badTrace trace) ∷ cause 6 (badPulse image trace) ∷ cause 7 (noRoom image trace answers lines) ∷ []) (lit< tt, (lit< tt, (lit< tt, (lit< tt, tt)))) h
+    first-none (imageCauses image) (cause 5 (badTrace trace) ∷ cause 6 (badPulse image trace) ∷ cause 7 (noRunRoom image trace answers lines) ∷ []) (lit< tt, (lit< tt, (lit< tt, (lit< tt, tt)))) h
 
 -- what is not refused: an accepted image, a trace of events that all devices take, and room
 pub record Admitted (image trace : List ℕ) (answers lines : ℕ) : Type 0 where
@@ -120,10 +120,10 @@ neither true b e = absurd (true≢false e)
 neither false b e = (refl, e)
 
 pub admitted : (image trace : List ℕ) (answers lines : ℕ) → runRefusal image trace answers lines ≡ 0 → Admitted image trace answers lines
-unfolding runRefusal runCauses imageRefusal noRoom
+unfolding runRefusal runCauses imageRefusal noRunRoom
 admitted image trace answers lines e =
-    let first : imageRefusal image ≡ 0 = none-first (imageCauses image) (cause 5 (badTrace trace) ∷ cause 6 (badPulse image trace) ∷ cause 7 (noRoom image trace answers lines) ∷ []) e in
-    let rest = clear (badTrace trace) (badPulse image trace) (noRoom image trace answers lines) (sym (run-causes image trace answers lines first) ∙ e) in
+    let first : imageRefusal image ≡ 0 = none-first (imageCauses image) (cause 5 (badTrace trace) ∷ cause 6 (badPulse image trace) ∷ cause 7 (noRunRoom image trace answers lines) ∷ []) e in
+    let rest = clear (badTrace trace) (badPulse image trace) (noRunRoom image trace answers lines) (sym (run-causes image trace answers lines first) ∙ e) in
     let room = neither (ltb answers (length trace)) (ltb lines (countOf image)) (rest .2) in
     record {
       image-accepted = first;
@@ -135,7 +135,7 @@ admitted image trace answers lines e =
 
 -- and back
 pub not-refused : (image trace : List ℕ) (answers lines : ℕ) → Admitted image trace answers lines → runRefusal image trace answers lines ≡ 0
-unfolding noRoom
+unfolding noRunRoom
 not-refused image trace answers lines a =
     rw (run-causes image trace answers lines (a .image-accepted), a .trace-good, a .pulses-good, le-ltb answers (length trace) (a .answers-room), le-ltb lines (countOf image) (a .lines-room))
 
@@ -155,9 +155,9 @@ turn-image-length : (image : List ℕ) (i : ℕ) (state : LineState) (byte : ℕ
 unfolding turnImage deviceIn deviceAt
 turn-image-length image i state byte level =
     let h = place-inside image i in
-    with-body-length image (placeOf image i) (nextBody (eventOf byte) level (deviceIn image i state)) h
+    with-body-length image (placeIn image i) (nextBody (eventOf byte) level (deviceIn image i state)) h
     (next-length (eventOf byte) level (deviceIn image i state)
-    ∙ length-take-le (placeOf image i .end - placeOf image i .start) (drop (placeOf image i .start) image) (rw length-drop (omega (arith, h .rising, h .within))))
+    ∙ length-take-le (placeIn image i .end - placeIn image i .start) (drop (placeIn image i .start) image) (rw length-drop (omega (arith, h .rising, h .within))))
 
 pub turns-image-length : (byte : ℕ) (level : Bool) (i : ℕ) (s : BusState) → length (turns byte level i s .image) ≡ length (s .image)
 unfolding turns turnAt

@@ -24,7 +24,7 @@ use denote.Laws.{Is, Tells, Copy}
 use denote.Steps.{only}
 use denote.Struct.Laws as LL
 use Rattle.device.specs.declared.LineState.{LineState}
-use Rattle.bus.specs.Bus.{answerOf}
+use Rattle.bus.specs.Bus.{answerByte}
 use Rattle.device.proofs.LineState as T
 use Rattle.device.proofs.LineState.Laws as T′
 
@@ -52,8 +52,8 @@ pub fits-next : (i n : ℕ) → n < 2 ^ 64 → i < n → i + 1 < 2 ^ 64
 fits-next i n g l = omega (arith, g, l)
 
 -- ---- a level as a byte, and the unit
-pub answer-is : (t : Bool) → boolByte t ≡ answerOf t
-unfolding answerOf
+pub answer-is : (t : Bool) → boolByte t ≡ answerByte t
+unfolding answerByte
 answer-is true = refl
 answer-is false = refl
 
@@ -61,8 +61,8 @@ pub answer-fits : (t : Bool) → boolByte t < 2 ^ 8
 answer-fits true = lit< tt
 answer-fits false = lit< tt
 
-pub answer-fits′ : (t : Bool) → answerOf t < 2 ^ 8
-unfolding answerOf
+pub answer-fits′ : (t : Bool) → answerByte t < 2 ^ 8
+unfolding answerByte
 answer-fits′ true = lit< tt
 answer-fits′ false = lit< tt
 

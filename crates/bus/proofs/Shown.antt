@@ -19,10 +19,10 @@ use Rattle.image.proofs.Accepted.{Known, accepted-known, body-length, body-code
 use Rattle.device.specs.declared.LineState.{LineState}
 use Rattle.device.specs.Device.{waitingState}
 use Rattle.bus.specs.declared.Place.{Place}
-use Rattle.bus.specs.Bus.{Device, deviceOf, eventOf, levelOf, nextState, nextBody, nextDevice, busStepAt, busStep, Run, answerOf, withAnswer, runTrace}
-use Rattle.bus.specs.Run.{devicesFrom, waitingDevices, headerOf, bodiesOf, statesOf, outcome, leftBy, runAt, runOf, Outcome, Leaves}
+use Rattle.bus.specs.Bus.{Device, deviceOf, eventOf, levelOf, nextState, nextBody, nextDevice, busStepAt, busStep, Run, answerByte, withAnswer, runTrace}
+use Rattle.bus.specs.Run.{devicesFrom, waitingDevices, headerOf, bodiesOf, statesOf, runOutcome, leftByRun, runAt, runOf, RunOutcome, RunLeaves}
 use Rattle.bus.specs.Refusal.{someByte, badTrace, badPulse, runRefusal}
-use Rattle.bus.specs.Loops.{placeOf, deviceAt, deviceIn, withBody, turnState, turnImage, devicesIn, levelOn, servedOf, lineAt, BusState, busState, turnAt, turns, filled, RunState, runState, eventAt, events}
+use Rattle.bus.specs.Loops.{placeIn, deviceAt, deviceIn, withBody, turnState, turnImage, devicesIn, levelOn, servedOf, lineAt, BusState, busState, turnAt, turns, filled, RunState, runState, eventAt, events}
 use Rattle.bus.proofs.Laws.{admitted, not-refused}
 use Rattle.bus.proofs.Runs.{runAfter, run-append, run-length, run-same, AllSame, none, also, part-same, same-length}
 
@@ -70,8 +70,8 @@ abbrev placed : Kind → ℕ → ℕ → Place
 placed kind start size = record { kind = kind; start = start; end = start + size }
 
 place-known : (image : List ℕ) (i : ℕ) → i < countOf image → offsetAt image i + bodySize (kindAt image i) ≤ length image
-    → placeOf image i ≡ placed (kindAt image i) (offsetAt image i) (bodySize (kindAt image i))
-unfolding placeOf
+    → placeIn image i ≡ placed (kindAt image i) (offsetAt image i) (bodySize (kindAt image i))
+unfolding placeIn
 place-known image i h fits = rw (lt-ltb i (countOf image) h, le-leb (offsetAt image i + bodySize (kindAt image i)) (length image) fits)
 
 -- what stands past the end of a list of devices, which nothing reads
@@ -137,7 +137,7 @@ module _ (image : List ℕ) (known : Known image) where
     fits : offsetAt P (length xs) + bodySize (kindAt P (length xs)) ≤ length P
     fits = omega (arith, start-is, size-is, ap length image-split, length-append before (d .body ++ bodiesOf ys), length-append (d .body) (bodiesOf ys))
 
-    pub place-is : placeOf P (length xs) ≡ placed (d .kind) (length before) (length (d .body))
+    pub place-is : placeIn P (length xs) ≡ placed (d .kind) (length before) (length (d .body))
     place-is =
         place-known P (length xs) (subst (λ (m : ℕ). length xs < m) (sym (count-kept (xs ++ d ∷ ys))) within) fits
         ∙ ap (λ (k : Kind). placed k (offsetAt P (length xs)) (bodySize (kindAt P (length xs)))) kind-is
@@ -158,7 +158,7 @@ module _ (image : List ℕ) (known : Known image) where
     device-is = ap (λ (p : Place). deviceAt P p (d .state)) place-is ∙ ap (λ (b : List ℕ). deviceOf (d .kind) b (d .state)) body-is
 
     -- another body in its place
-    pub body-put : (e : Device) → withBody P (placeOf P (length xs)) (e .body) ≡ imageOf (xs ++ e ∷ ys)
+    pub body-put : (e : Device) → withBody P (placeIn P (length xs)) (e .body) ≡ imageOf (xs ++ e ∷ ys)
     unfolding withBody bodiesOf
     body-put e =
         ap (λ (p : Place). withBody P p (e .body)) place-is
@@ -202,7 +202,7 @@ module _ (image : List ℕ) (known : Known image) where
         let e = nextDevice (eventOf byte) level d in
         let L = linesOf (xs ++ d ∷ ys) in
         ap (λ (s : LineState). busState (turnImage P i s byte level) (set L i (turnState P i s byte level))) (line-is xs d ys)
-        ∙ ap (λ (c : Device). busState (withBody P (placeOf P i) (nextBody (eventOf byte) level c)) (set L i (nextState (eventOf byte) level c))) (device-is xs d ys stand all)
+        ∙ ap (λ (c : Device). busState (withBody P (placeIn P i) (nextBody (eventOf byte) level c)) (set L i (nextState (eventOf byte) level c))) (device-is xs d ys stand all)
         ∙ ap (λ (l : List ℕ). busState l (set L i (e .state))) (body-put xs d ys stand all e)
         ∙ ap (λ (l : List LineState). busState (imageOf (xs ++ e ∷ ys)) l) (line-put xs d e ys)
 
@@ -281,9 +281,9 @@ module _ (image : List ℕ) (known : Known image) where
           let all′ : length es ≡ countOf image = same-length same ∙ all in
           let level = levelOf (eventOf byte) es in
           let after = map (nextDevice (eventOf byte) level) es in
-          ap (λ (b : Bool). runState (turns byte b (countOf image) (busStateOf es) .image) (set (ran k .answers ++ drop k answers) k (answerOf b)) (turns byte b (countOf image) (busStateOf es) .lines)) (level-is es stand′ all′ byte)
-          ∙ ap (λ (s : BusState). runState (s .image) (set (ran k .answers ++ drop k answers) k (answerOf level)) (s .lines)) (ap (λ (m : ℕ). turns byte level m (busStateOf es)) (sym all′) ∙ turned-is es stand′ all′ byte level)
-          ∙ ap (λ (l : List ℕ). runState (imageOf after) l (linesOf after)) (answers-put k (answerOf level) h)
+          ap (λ (b : Bool). runState (turns byte b (countOf image) (busStateOf es) .image) (set (ran k .answers ++ drop k answers) k (answerByte b)) (turns byte b (countOf image) (busStateOf es) .lines)) (level-is es stand′ all′ byte)
+          ∙ ap (λ (s : BusState). runState (s .image) (set (ran k .answers ++ drop k answers) k (answerByte level)) (s .lines)) (ap (λ (m : ℕ). turns byte level m (busStateOf es)) (sym all′) ∙ turned-is es stand′ all′ byte level)
+          ∙ ap (λ (l : List ℕ). runState (imageOf after) l (linesOf after)) (answers-put k (answerByte level) h)
           ∙ ap (λ (r : Run). runState (imageOf (r .devices)) (r .answers ++ drop (suc k) answers) (linesOf (r .devices))) (sym (run-next k h))
 
       events-are : (k : ℕ) → k ≤ length trace → events trace (countOf image) k (runState (imageOf ds) answers (linesOf ds)) ≡ runStateOf k
@@ -364,8 +364,8 @@ ends trace image answers lines =
 
 -- is what the run is to leave, where it is not refused
 pub run-shown : (trace image answers : List ℕ) (lines : List LineState) → runRefusal image trace (length answers) (length lines) ≡ 0
-    → outcome 0 (ends trace image answers lines .image) (ends trace image answers lines .answers) (ends trace image answers lines .lines) ≡ runOf trace image answers lines
-unfolding runOf runAt leftBy servedOf
+    → runOutcome 0 (ends trace image answers lines .image) (ends trace image answers lines .answers) (ends trace image answers lines .lines) ≡ runOf image trace answers lines
+unfolding runOf runAt leftByRun servedOf
 run-shown trace image answers lines e =
     let has = admitted image trace (length answers) (length lines) e in
     let known = accepted-known image (has .image-accepted) in
@@ -379,42 +379,42 @@ run-shown trace image answers lines e =
     ∙ ap (λ (l : List LineState). events trace n (length trace) (runState image answers l)) began
     ∙ ap (λ (l : List ℕ). events trace n (length trace) (runState l answers (statesOf ds ++ tail))) (sym (waiting-image image known))
     ∙ run-is image known tail trace answers (has .answers-room) ds (waiting-stands image known) (waiting-all image known) in
-    ap (λ (s : RunState). outcome 0 (s .image) (s .answers) (s .lines)) ended
-    ∙ ap (λ (m : ℕ). runAt m trace image answers lines) (sym e)
+    ap (λ (s : RunState). runOutcome 0 (s .image) (s .answers) (s .lines)) ended
+    ∙ ap (λ (m : ℕ). runAt m image trace answers lines) (sym e)
 
 -- what is refused changes nothing
-refused-at : (m : ℕ) (trace image answers : List ℕ) (lines : List LineState) → T (not (eqb m 0)) → outcome m image answers lines ≡ runAt m trace image answers lines
+refused-at : (m : ℕ) (trace image answers : List ℕ) (lines : List LineState) → T (not (eqb m 0)) → runOutcome m image answers lines ≡ runAt m image trace answers lines
 unfolding runAt
 refused-at zero trace image answers lines t = absurd t
 refused-at (suc m) trace image answers lines t = refl
 
 pub run-refused : (trace image answers : List ℕ) (lines : List LineState) → T (not (eqb (runRefusal image trace (length answers) (length lines)) 0))
-    → outcome (runRefusal image trace (length answers) (length lines)) image answers lines ≡ runOf trace image answers lines
+    → runOutcome (runRefusal image trace (length answers) (length lines)) image answers lines ≡ runOf image trace answers lines
 unfolding runOf
 run-refused trace image answers lines t = refused-at (runRefusal image trace (length answers) (length lines)) trace image answers lines t
 
 -- what a run left, as one equation and as an equation for each thing
-pub run-leaves : (left : Outcome) (number : ℕ) (image answers : List ℕ) (lines : List LineState)
-    → outcome number image answers lines ≡ left → Leaves left number image answers lines
+pub run-leaves : (left : RunOutcome) (number : ℕ) (image answers : List ℕ) (lines : List LineState)
+    → runOutcome number image answers lines ≡ left → RunLeaves left number image answers lines
 run-leaves left number image answers lines e =
     record {
-      number-is = ap (λ (o : Outcome). o .number) e;
-      image-is = ap (λ (o : Outcome). o .image) e;
-      answers-are = ap (λ (o : Outcome). o .answers) e;
-      lines-are = ap (λ (o : Outcome). o .lines) e;
+      number-is = ap (λ (o : RunOutcome). o .number) e;
+      image-is = ap (λ (o : RunOutcome). o .image) e;
+      answers-are = ap (λ (o : RunOutcome). o .answers) e;
+      lines-are = ap (λ (o : RunOutcome). o .lines) e;
     }
 
-pub left-is : (left : Outcome) (number : ℕ) (image answers : List ℕ) (lines : List LineState)
-    → Leaves left number image answers lines → outcome number image answers lines ≡ left
-left-is left number image answers lines l = λ i. outcome (l .number-is i) (l .image-is i) (l .answers-are i) (l .lines-are i)
+pub left-is : (left : RunOutcome) (number : ℕ) (image answers : List ℕ) (lines : List LineState)
+    → RunLeaves left number image answers lines → runOutcome number image answers lines ≡ left
+left-is left number image answers lines l = λ i. runOutcome (l .number-is i) (l .image-is i) (l .answers-are i) (l .lines-are i)
 
 -- the empty trace: no refusal, no answers, the image unchanged, the first n line states waiting
 pub empty-run : (image answers : List ℕ) (lines : List LineState) → imageRefusal image ≡ 0 → countOf image ≤ length lines
-    → runOf [] image answers lines ≡ outcome 0 image answers (replicate (countOf image) waitingState ++ drop (countOf image) lines)
-unfolding runOf runAt leftBy runTrace badTrace badPulse someByte
+    → runOf image [] answers lines ≡ runOutcome 0 image answers (replicate (countOf image) waitingState ++ drop (countOf image) lines)
+unfolding runOf runAt leftByRun runTrace badTrace badPulse someByte
 empty-run image answers lines e room =
     let known = accepted-known image e in
     let zero′ = not-refused image [] (length answers) (length lines) (record { image-accepted = e; trace-good = refl; pulses-good = refl; answers-room = omega arith; lines-room = room }) in
-    ap (λ (m : ℕ). runAt m [] image answers lines) zero′
-    ∙ ap (λ (l : List ℕ). outcome 0 l answers (statesOf (waitingDevices image) ++ drop (countOf image) lines)) (waiting-image image known)
-    ∙ ap (λ (l : List LineState). outcome 0 image answers (l ++ drop (countOf image) lines)) (waiting-states image known)
+    ap (λ (m : ℕ). runAt m image [] answers lines) zero′
+    ∙ ap (λ (l : List ℕ). runOutcome 0 l answers (statesOf (waitingDevices image) ++ drop (countOf image) lines)) (waiting-image image known)
+    ∙ ap (λ (l : List LineState). runOutcome 0 image answers (l ++ drop (countOf image) lines)) (waiting-states image known)

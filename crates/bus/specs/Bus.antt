@@ -6,7 +6,7 @@ use mathlib.Core.List.{List, [], _∷_, map}
 use lib.Dec.{eqb}
 use Rattle.kind.specs.declared.Kind.{Kind}
 use Rattle.device.specs.declared.LineState.{LineState}
-use Rattle.device.specs.Device.{resetState, sendsOf, stepOf, writeOf, resetBody, pulseOf, programOf}
+use Rattle.device.specs.Device.{resetState, sendsOf, stateAfter, writeOf, resetBody, pulseOf, programOf}
 use Rattle.bus.specs.declared.Event.{Event}
 use Rattle.bus.specs.declared.Event.the-variants.{Slot, Reset, Pulse}
 
@@ -43,7 +43,7 @@ levelOf Pulse ds = true
 
 -- what an event at a level makes of a device. In a slot a device that listens takes this level, not the master's bit
 unfoldable pub nextState : Event → Bool → Device → LineState
-nextState (Slot sent) level d = stepOf (d .state) (d .kind) (d .body) level
+nextState (Slot sent) level d = stateAfter (d .state) (d .kind) (d .body) level
 nextState Reset level d = resetState
 nextState Pulse level d = pulseOf (d .state) (d .kind) (d .body)
 
@@ -71,12 +71,12 @@ pub record Run : Type 0 where
   pub answers : List ℕ
   pub devices : List Device
 
-unfoldable pub answerOf : Bool → ℕ
-answerOf false = 0
-answerOf true = 1
+unfoldable pub answerByte : Bool → ℕ
+answerByte false = 0
+answerByte true = 1
 
 unfoldable pub withAnswer : Bool → Run → Run
-withAnswer level rest = record { answers = answerOf level ∷ rest .answers; devices = rest .devices }
+withAnswer level rest = record { answers = answerByte level ∷ rest .answers; devices = rest .devices }
 
 unfoldable pub runTrace : List ℕ → List Device → Run
 runTrace [] ds = record { answers = []; devices = ds }

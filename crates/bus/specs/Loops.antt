@@ -17,7 +17,7 @@ use Rattle.device.specs.Device.{waitingState, sendsOf}
 use Rattle.bus.specs.declared.Event.{Event}
 use Rattle.bus.specs.declared.Event.the-variants.{Slot, Reset, Pulse}
 use Rattle.bus.specs.declared.Place.{Place}
-use Rattle.bus.specs.Bus.{Device, deviceOf, eventOf, levelOf, nextState, nextBody, answerOf}
+use Rattle.bus.specs.Bus.{Device, deviceOf, eventOf, levelOf, nextState, nextBody, answerByte}
 
 -- ---- one device
 
@@ -37,8 +37,8 @@ unfoldable pub idleIn : ℕ → LineState → Bool
 idleIn byte state = ltb byte 2 && waitsIn (state .stage)
 
 -- where the body of device i lies, and its kind. A device that the image does not have, or has no room for, has an empty body and no kind
-unfoldable pub placeOf : List ℕ → ℕ → Place
-placeOf image i =
+unfoldable pub placeIn : List ℕ → ℕ → Place
+placeIn image i =
     cond (ltb i (countOf image) && leb (offsetAt image i + bodySize (kindAt image i)) (length image))
     (record { kind = kindAt image i; start = offsetAt image i; end = offsetAt image i + bodySize (kindAt image i) })
     (record { kind = Unknown; start = 0; end = 0 })
@@ -47,7 +47,7 @@ unfoldable pub deviceAt : List ℕ → Place → LineState → Device
 deviceAt image place state = deviceOf (place .kind) (take (place .end - place .start) (drop (place .start) image)) state
 
 unfoldable pub deviceIn : List ℕ → ℕ → LineState → Device
-deviceIn image i state = deviceAt image (placeOf image i) state
+deviceIn image i state = deviceAt image (placeIn image i) state
 
 -- the image with another body at a place
 unfoldable pub withBody : List ℕ → Place → List ℕ → List ℕ
@@ -58,7 +58,7 @@ unfoldable pub turnState : List ℕ → ℕ → LineState → ℕ → Bool → L
 turnState image i state byte level = nextState (eventOf byte) level (deviceIn image i state)
 
 unfoldable pub turnImage : List ℕ → ℕ → LineState → ℕ → Bool → List ℕ
-turnImage image i state byte level = withBody image (placeOf image i) (nextBody (eventOf byte) level (deviceIn image i state))
+turnImage image i state byte level = withBody image (placeIn image i) (nextBody (eventOf byte) level (deviceIn image i state))
 
 -- ---- the level of an event
 
@@ -137,7 +137,7 @@ unfoldable pub eventAt : ℕ → ℕ → ℕ → RunState → RunState
 eventAt byte n k s =
     let level = levelOn (s .image) (s .lines) byte in
     let after = turns byte level n (busState (s .image) (s .lines)) in
-    runState (after .image) (set (s .answers) k (answerOf level)) (after .lines)
+    runState (after .image) (set (s .answers) k (answerByte level)) (after .lines)
 
 unfoldable pub events : List ℕ → ℕ → ℕ → RunState → RunState
 events trace n zero s = s

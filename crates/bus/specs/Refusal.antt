@@ -30,8 +30,8 @@ badPulse image trace =
     && someBelow (countOf image) (λ i. not (isEprom (kindAt image i)))
 
 -- 7: answers shorter than the trace, or fewer than n line states
-unfoldable pub noRoom : List ℕ → List ℕ → ℕ → ℕ → Bool
-noRoom image trace answers lines = ltb answers (length trace) || ltb lines (countOf image)
+unfoldable pub noRunRoom : List ℕ → List ℕ → ℕ → ℕ → Bool
+noRunRoom image trace answers lines = ltb answers (length trace) || ltb lines (countOf image)
 
 -- the lowest number wins
 unfoldable pub runCauses : List ℕ → List ℕ → ℕ → ℕ → List Cause
@@ -39,7 +39,7 @@ runCauses image trace answers lines =
     imageCauses image
     ++ cause 5 (badTrace trace)
     ∷ cause 6 (badPulse image trace)
-    ∷ cause 7 (noRoom image trace answers lines)
+    ∷ cause 7 (noRunRoom image trace answers lines)
     ∷ []
 
 unfoldable pub runRefusal : List ℕ → List ℕ → ℕ → ℕ → ℕ

@@ -30,34 +30,34 @@ abbrev pub statesOf : List Device → List LineState
 statesOf ds = map (λ d. d .state) ds
 
 -- what a run leaves: its number (0: it is not refused), the image, the answers and the line states
-pub record Outcome : Type 0 where
+pub record RunOutcome : Type 0 where
   pub number : ℕ
   pub image : List ℕ
   pub answers : List ℕ
   pub lines : List LineState
 
-abbrev pub outcome : ℕ → List ℕ → List ℕ → List LineState → Outcome
-outcome number image answers lines = record { number = number; image = image; answers = answers; lines = lines }
+abbrev pub runOutcome : ℕ → List ℕ → List ℕ → List LineState → RunOutcome
+runOutcome number image answers lines = record { number = number; image = image; answers = answers; lines = lines }
 
 -- what a run returned and left is this
-pub record Leaves (left : Outcome) (number : ℕ) (image answers : List ℕ) (lines : List LineState) : Type 0 where
+pub record RunLeaves (left : RunOutcome) (number : ℕ) (image answers : List ℕ) (lines : List LineState) : Type 0 where
   pub number-is : number ≡ left .number
   pub image-is : image ≡ left .image
   pub answers-are : answers ≡ left .answers
   pub lines-are : lines ≡ left .lines
 
 -- bytes and line states past those named stay as they were; what the line states held before is ignored
-unfoldable pub leftBy : Run → List ℕ → List ℕ → List ℕ → List LineState → Outcome
-leftBy ran trace image answers lines =
-    outcome 0
+unfoldable pub leftByRun : Run → List ℕ → List ℕ → List ℕ → List LineState → RunOutcome
+leftByRun ran image trace answers lines =
+    runOutcome 0
     (headerOf image ++ bodiesOf (ran .devices))
     (ran .answers ++ drop (length trace) answers)
     (statesOf (ran .devices) ++ drop (countOf image) lines)
 
 -- by the number: a run, or nothing is changed
-unfoldable pub runAt : ℕ → List ℕ → List ℕ → List ℕ → List LineState → Outcome
-runAt zero trace image answers lines = leftBy (runTrace trace (waitingDevices image)) trace image answers lines
-runAt (suc n) trace image answers lines = outcome (suc n) image answers lines
+unfoldable pub runAt : ℕ → List ℕ → List ℕ → List ℕ → List LineState → RunOutcome
+runAt zero image trace answers lines = leftByRun (runTrace trace (waitingDevices image)) image trace answers lines
+runAt (suc n) image trace answers lines = runOutcome (suc n) image answers lines
 
-unfoldable pub runOf : List ℕ → List ℕ → List ℕ → List LineState → Outcome
-runOf trace image answers lines = runAt (runRefusal image trace (length answers) (length lines)) trace image answers lines
+unfoldable pub runOf : List ℕ → List ℕ → List ℕ → List LineState → RunOutcome
+runOf image trace answers lines = runAt (runRefusal image trace (length answers) (length lines)) image trace answers lines

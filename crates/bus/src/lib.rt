@@ -14,9 +14,9 @@ ghost use lib.Dec.{eqb, ltb};
 ghost use Rattle.image.specs.Image.{countOf, kindAt};
 ghost use Rattle.image.specs.Refusal.{someBelow};
 ghost use Rattle.bus.specs.Bus.{deviceOf, eventOf, nextState, nextBody};
-ghost use Rattle.bus.specs.Refusal.{someByte, badTrace, isEprom, badPulse, noRoom, runRefusal};
-ghost use Rattle.bus.specs.Run.{Leaves, runOf};
-ghost use Rattle.bus.specs.Loops.{isWaiting, waitsIn, idleIn, placeOf, deviceAt, deviceIn, masterLevel, deviceLevel, turnState, turnImage, servedOf, levelOn, statesAfter, busState, turns, filled, runState, events};
+ghost use Rattle.bus.specs.Refusal.{someByte, badTrace, isEprom, badPulse, noRunRoom, runRefusal};
+ghost use Rattle.bus.specs.Run.{RunLeaves, runOf};
+ghost use Rattle.bus.specs.Loops.{isWaiting, waitsIn, idleIn, placeIn, deviceAt, deviceIn, masterLevel, deviceLevel, turnState, turnImage, servedOf, levelOn, statesAfter, busState, turns, filled, runState, events};
 ghost use Rattle.device.specs.Device.{waitingState};
 
 // An event on the line: a slot in which the master sends a bit, a reset, or a program pulse.
@@ -96,7 +96,7 @@ fn wide(byte: u8) -> usize
 // The place of device i, found from its entry: that costs a constant. A device that the image does not have, or has no room for, has an
 // empty body and no kind.
 fn place_of(image: &[u8], i: usize) -> Place
-    ensures { λ r. ⌜ r ≡ placeOf (now (image .entry)) i ⌝ }
+    ensures { λ r. ⌜ r ≡ placeIn (now (image .entry)) i ⌝ }
 {
     if i < wide(image::count(image)) {
         let entry = image::entry_at(image, i as u8);
@@ -297,7 +297,7 @@ fn is_bad_pulse(image: &[u8], trace: &[u8]) -> bool
 
 // Cause 7.
 fn lacks_room(image: &[u8], trace: &[u8], answers: usize, lines: usize) -> bool
-    ensures { λ r. ⌜ r ≡ noRoom (now (image .entry)) (now (trace .entry)) answers lines ⌝ }
+    ensures { λ r. ⌜ r ≡ noRunRoom (now (image .entry)) (now (trace .entry)) answers lines ⌝ }
 {
     if answers < trace.len() {
         return true;
@@ -408,7 +408,7 @@ fn run_events(image: &mut [u8], trace: &[u8], answers: &mut [u8], lines: &mut [L
 
 // The run. What is refused changes nothing; else every device starts waiting, whatever the line states held.
 pub fn run(image: &mut [u8], trace: &[u8], answers: &mut [u8], lines: &mut [LineState]) -> u32
-    ensures { λ r. ⌜ Leaves (runOf (now (trace .entry)) (now (image .entry)) (now (answers .entry)) (now (lines .entry))) r (now (image .exit)) (now (answers .exit)) (now (lines .exit)) ⌝ }
+    ensures { λ r. ⌜ RunLeaves (runOf (now (image .entry)) (now (trace .entry)) (now (answers .entry)) (now (lines .entry))) r (now (image .exit)) (now (answers .exit)) (now (lines .exit)) ⌝ }
 {
     let number = refusal(image, trace, answers.len(), lines.len());
     if number == ACCEPTED {

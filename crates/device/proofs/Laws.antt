@@ -24,7 +24,7 @@ use Rattle.rom.proofs.Laws as rom
 use Rattle.sram.proofs.Laws as sram
 use Rattle.eprom.proofs.Pulses as eprom
 use Rattle.device.specs.declared.LineState.{LineState}
-use Rattle.device.specs.Device.{sizeOf, stageRange, stageSends, stageStep, memoryWrite, stageWrite, memoryReset, stageReset, memoryProgram, stageProgram, stateOf, waitingState, taken, sendsOf, stepOf, writeOf, resetBody, programOf}
+use Rattle.device.specs.Device.{sizeOf, stageRange, stageSends, stageStep, memoryWrite, stageWrite, memoryReset, stageReset, memoryProgram, stageProgram, stateOf, waitingState, taken, sendsOf, stateAfter, writeOf, resetBody, programOf}
 
 -- ---- what nothing on the line changes: a body's length, and its registration code
 
@@ -118,8 +118,8 @@ module _ (kind : Kind) (body : List ℕ) where
   unfolding sendsOf stageSends romSends
   waiting-sends = ap (λ (s : Stage). stageSends s body) waiting-taken
 
-  pub waiting-step : (level : Bool) → stepOf waitingState kind body level ≡ waitingState
-  unfolding stepOf stageStep romStep
+  pub waiting-step : (level : Bool) → stateAfter waitingState kind body level ≡ waitingState
+  unfolding stateAfter stageStep romStep
   waiting-step level = ap (λ (s : Stage). stateOf (stageStep s kind body level)) waiting-taken
 
   pub waiting-write : (level : Bool) → writeOf waitingState kind body level ≡ body
@@ -136,8 +136,8 @@ module _ (r : RomStage) (kind : Kind) (body : List ℕ) (sized : length body ≡
   unfolding sendsOf stageSends
   rom-sends = ap (λ (s : Stage). stageSends s body) rom-taken
 
-  pub rom-step : (level : Bool) → stepOf (stateOf (Rom r)) kind body level ≡ stateOf (romStep r body level)
-  unfolding stepOf stageStep
+  pub rom-step : (level : Bool) → stateAfter (stateOf (Rom r)) kind body level ≡ stateOf (romStep r body level)
+  unfolding stateAfter stageStep
   rom-step level = ap (λ (s : Stage). stateOf (stageStep s kind body level)) rom-taken
 
 -- ---- the three slots of bit `at` in a search: the bit, its complement, and the direction, which decides whether it stays
@@ -153,27 +153,27 @@ module _ (at : ℕ) (kind : Kind) (body : List ℕ) (sized : length body ≡ bod
   pub search-sends-bit : sendsOf (searching at Bit) kind body ≡ bitAt body at
   search-sends-bit = rom-sends (Search at Bit) kind body sized (ranged Bit) ∙ rom.sends-bit at body
 
-  pub search-after-bit : (level : Bool) → stepOf (searching at Bit) kind body level ≡ searching at Complement
+  pub search-after-bit : (level : Bool) → stateAfter (searching at Bit) kind body level ≡ searching at Complement
   search-after-bit level = rom-step (Search at Bit) kind body sized (ranged Bit) level ∙ ap stateOf (rom.after-bit at body level)
 
   pub search-sends-complement : sendsOf (searching at Complement) kind body ≡ not (bitAt body at)
   search-sends-complement = rom-sends (Search at Complement) kind body sized (ranged Complement) ∙ rom.sends-complement at body
 
-  pub search-after-complement : (level : Bool) → stepOf (searching at Complement) kind body level ≡ searching at Direction
+  pub search-after-complement : (level : Bool) → stateAfter (searching at Complement) kind body level ≡ searching at Direction
   search-after-complement level =
       rom-step (Search at Complement) kind body sized (ranged Complement) level ∙ ap stateOf (rom.after-complement at body level)
 
   pub search-sends-direction : sendsOf (searching at Direction) kind body ≡ true
   search-sends-direction = rom-sends (Search at Direction) kind body sized (ranged Direction) ∙ rom.sends-direction at body
 
-  pub search-stays : (level : Bool) → level ≡ bitAt body at → at < 63 → stepOf (searching at Direction) kind body level ≡ searching (at + 1) Bit
+  pub search-stays : (level : Bool) → level ≡ bitAt body at → at < 63 → stateAfter (searching at Direction) kind body level ≡ searching (at + 1) Bit
   search-stays level same h =
       rom-step (Search at Direction) kind body sized (ranged Direction) level ∙ ap stateOf (rom.after-direction at body level same h)
 
-  pub search-ends : (level : Bool) → level ≡ bitAt body at → at ≡ 63 → stepOf (searching at Direction) kind body level ≡ stateOf addressed
+  pub search-ends : (level : Bool) → level ≡ bitAt body at → at ≡ 63 → stateAfter (searching at Direction) kind body level ≡ stateOf addressed
   search-ends level same h =
       rom-step (Search at Direction) kind body sized (ranged Direction) level ∙ ap stateOf (rom.after-last-direction at body level same h)
 
-  pub search-leaves : (level : Bool) → level ≡ not (bitAt body at) → stepOf (searching at Direction) kind body level ≡ stateOf waiting
+  pub search-leaves : (level : Bool) → level ≡ not (bitAt body at) → stateAfter (searching at Direction) kind body level ≡ stateOf waiting
   search-leaves level other =
       rom-step (Search at Direction) kind body sized (ranged Direction) level ∙ ap stateOf (rom.after-other-direction at body level other)

@@ -140,8 +140,8 @@ taken state kind body = cond (eqb (length body) (bodySize kind) && stageRange (s
 unfoldable pub sendsOf : LineState → Kind → List ℕ → Bool
 sendsOf state kind body = stageSends (taken state kind body) body
 
-unfoldable pub stepOf : LineState → Kind → List ℕ → Bool → LineState
-stepOf state kind body level = stateOf (stageStep (taken state kind body) kind body level)
+unfoldable pub stateAfter : LineState → Kind → List ℕ → Bool → LineState
+stateAfter state kind body level = stateOf (stageStep (taken state kind body) kind body level)
 
 unfoldable pub writeOf : LineState → Kind → List ℕ → Bool → List ℕ
 writeOf state kind body level = stageWrite (taken state kind body) kind body level

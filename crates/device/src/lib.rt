@@ -6,7 +6,7 @@ use kind::Kind;
 use line::MemoryStage;
 use line::Stage;
 ghost use mathlib.Core.Path.{_≡_};
-ghost use Rattle.device.specs.Device.{sizeOf, memoryCommand, commandStep, sramIn, epromIn, memoryRange, stageRange, memorySends, stageSends, memoryStep, stageStep, memoryWrite, stageWrite, memoryReset, stageReset, memoryPulse, stagePulse, memoryProgram, stageProgram, waitingState, resetState, taken, sendsOf, stepOf, writeOf, resetBody, pulseOf, programOf};
+ghost use Rattle.device.specs.Device.{sizeOf, memoryCommand, commandStep, sramIn, epromIn, memoryRange, stageRange, memorySends, stageSends, memoryStep, stageStep, memoryWrite, stageWrite, memoryReset, stageReset, memoryPulse, stagePulse, memoryProgram, stageProgram, waitingState, resetState, taken, sendsOf, stateAfter, writeOf, resetBody, pulseOf, programOf};
 
 // Where a device is on the line.
 pub struct LineState {
@@ -253,7 +253,7 @@ impl LineState {
 
     // The line state after a slot at a level.
     pub fn step(self, kind: Kind, body: &[u8], level: bool) -> LineState
-        ensures { λ r. ⌜ r ≡ stepOf self kind (now (body .entry)) level ⌝ }
+        ensures { λ r. ⌜ r ≡ stateAfter self kind (now (body .entry)) level ⌝ }
     {
         LineState {
             stage: stage_step(taken(self, kind, body), kind, body, level),

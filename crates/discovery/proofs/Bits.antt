@@ -9,7 +9,7 @@ use lib.ListN.{length, getD, set, take, replicate, length-set}
 use lib.Seq.{ext-getD}
 use lib.Dec.{eqb}
 use borrow.Author.Tests.{eqb-false, lt-leb}
-use Rattle.bits.specs.Bit.{bitOf, bitAt, byteOf, placeOf, atLevel, withBit, putBit}
+use Rattle.bits.specs.Bit.{bitOf, bitAt, byteOf, bitPlace, atLevel, withBit, putBit}
 use Rattle.bits.proofs.Laws.{clear-room}
 use Rattle.rom.proofs.Laws.{code-bit}
 use Rattle.master.specs.Master.{noBits}
@@ -66,7 +66,7 @@ same-bytes s t p q l f =
     ext-getD 0 s t l
     (λ i h. same-bits 8 (getD s i 0) (getD t i 0) (p i) (q i) (λ j k.
     let b : byteOf (8 * i + j) ≡ i = omega arith in
-    let o : placeOf (8 * i + j) ≡ j = omega arith in
+    let o : bitPlace (8 * i + j) ≡ j = omega arith in
     rw (b, o) at (f (8 * i + j) (omega arith))))
 
 -- ---- bits put into bytes
@@ -126,7 +126,7 @@ unfolding putBits putBit withBit
 put-bytes s i [] h = h
 put-bytes s i (b ∷ c) h =
     put-bytes (putBit s i b) (suc i) c
-    (set-bytes s (byteOf i) _ h (rw (lt-leb 8 (placeOf i) (omega arith)) (level-byte (getD s (byteOf i) 0) (placeOf i) b (h (byteOf i)) (omega arith))))
+    (set-bytes s (byteOf i) _ h (rw (lt-leb 8 (bitPlace i) (omega arith)) (level-byte (getD s (byteOf i) 0) (bitPlace i) b (h (byteOf i)) (omega arith))))
 
 no-bytes : Bytes noBits
 no-bytes k = go k 8

@@ -17,7 +17,7 @@ use Rattle.device.specs.declared.LineState.{LineState}
 use Rattle.device.specs.Device.{stateOf, waitingState}
 use Rattle.bus.specs.Bus.{Device, eventOf, presence, levelOf, runTrace}
 use Rattle.bus.specs.Refusal.{someByte, badTrace, badPulse, runRefusal}
-use Rattle.bus.specs.Run.{waitingDevices, headerOf, bodiesOf, statesOf, outcome, leftBy, runAt, runOf}
+use Rattle.bus.specs.Run.{waitingDevices, headerOf, bodiesOf, statesOf, runOutcome, leftByRun, runAt, runOf}
 use Rattle.bus.proofs.Laws.{not-refused}
 use Rattle.bus.proofs.Runs.{run-length}
 use Rattle.bus.proofs.Shown.{waiting-all, waiting-image}
@@ -195,17 +195,17 @@ same-image (d ∷ ds) (f ∷ es) e =
 
 run-replays : (image : List ℕ) {trace codes : List ℕ} (answers : List ℕ) (lines : List LineState) → imageRefusal image ≡ 0 → Written image trace codes
     → (d : Drives image trace codes) → length trace ≤ length answers → countOf image ≤ length lines
-    → runOf trace image answers lines
-    ≡ outcome 0 image (runTrace trace (waitingDevices image) .answers ++ drop (length trace) answers) (statesOf (d .devices) ++ drop (countOf image) lines)
-unfolding runOf runAt leftBy
+    → runOf image trace answers lines
+    ≡ runOutcome 0 image (runTrace trace (waitingDevices image) .answers ++ drop (length trace) answers) (statesOf (d .devices) ++ drop (countOf image) lines)
+unfolding runOf runAt leftByRun
 run-replays image {trace} answers lines ok w d room lent =
     let ds = waitingDevices image in
     let run = runTrace trace ds in
     let whole : headerOf image ++ bodiesOf (d .devices) ≡ image =
     ap (λ (l : List ℕ). headerOf image ++ l) (same-image (d .devices) ds (driven-bodies (d .driven))) ∙ waiting-image image (accepted-known image ok) in
-    ap (λ (n : ℕ). runAt n trace image answers lines) (run-admitted image (length answers) (length lines) ok w room lent)
-    ∙ ap (λ (es : List Device). outcome 0 (headerOf image ++ bodiesOf es) (run .answers ++ drop (length trace) answers) (statesOf es ++ drop (countOf image) lines)) (driven-devices (d .driven))
-    ∙ ap (λ (l : List ℕ). outcome 0 l (run .answers ++ drop (length trace) answers) (statesOf (d .devices) ++ drop (countOf image) lines)) whole
+    ap (λ (n : ℕ). runAt n image trace answers lines) (run-admitted image (length answers) (length lines) ok w room lent)
+    ∙ ap (λ (es : List Device). runOutcome 0 (headerOf image ++ bodiesOf es) (run .answers ++ drop (length trace) answers) (statesOf es ++ drop (countOf image) lines)) (driven-devices (d .driven))
+    ∙ ap (λ (l : List ℕ). runOutcome 0 l (run .answers ++ drop (length trace) answers) (statesOf (d .devices) ++ drop (countOf image) lines)) whole
 
 not-twice : (a b : List ℕ) → Precedes a b → a ≡ b → ⊥
 not-twice a b p e =

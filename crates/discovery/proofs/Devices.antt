@@ -18,7 +18,7 @@ use Rattle.line.specs.declared.Stage.the-variants.{Rom}
 use Rattle.line.specs.Names.{waiting}
 use Rattle.rom.specs.Rom.{romRange, addressed, afterCommand, afterDirection, afterSearch, romStep, romSends}
 use Rattle.device.specs.declared.LineState.{LineState}
-use Rattle.device.specs.Device.{stateOf, waitingState, resetState, sendsOf, stepOf, stageRange, taken, stageReset, memoryReset, resetBody}
+use Rattle.device.specs.Device.{stateOf, waitingState, resetState, sendsOf, stateAfter, stageRange, taken, stageReset, memoryReset, resetBody}
 use Rattle.device.proofs.Laws.{rom-write, rom-reset, rom-sends, rom-step, searching, search-sends-bit, search-after-bit, search-sends-complement, search-after-complement, search-sends-direction}
 use Rattle.bus.specs.declared.Event.the-variants.{Slot, Reset}
 use Rattle.bus.specs.Bus.{Device, deviceOf, pullsLow, someLow, levelOf, nextState, nextBody, nextDevice}
@@ -65,19 +65,19 @@ waiting-sends : (d : Device) → length (d .body) ≡ bodySize (d .kind) → sen
 unfolding romRange romSends
 waiting-sends d h = rom-sends Waiting (d .kind) (d .body) h refl
 
-waiting-steps : (d : Device) (level : Bool) → length (d .body) ≡ bodySize (d .kind) → stepOf waitingState (d .kind) (d .body) level ≡ waitingState
+waiting-steps : (d : Device) (level : Bool) → length (d .body) ≡ bodySize (d .kind) → stateAfter waitingState (d .kind) (d .body) level ≡ waitingState
 unfolding romRange romStep
 waiting-steps d level h = rom-step Waiting (d .kind) (d .body) h refl level
 
 -- in a ROM stage only the line state changes
-slot-next : (r : RomStage) (sent level : Bool) (d : Device) (s : LineState) → stepOf (stateOf (Rom r)) (d .kind) (d .body) level ≡ s
+slot-next : (r : RomStage) (sent level : Bool) (d : Device) (s : LineState) → stateAfter (stateOf (Rom r)) (d .kind) (d .body) level ≡ s
     → nextDevice (Slot sent) level (inState (stateOf (Rom r)) d) ≡ inState s d
 unfolding nextDevice nextState nextBody
 slot-next r sent level d s e = rw (rom-write r (d .kind) (d .body) level, e)
 
 -- a slot that takes every device that takes part from one stage to another
 slot-all : (r : RomStage) (s : LineState) (sent level : Bool) (ms : List Member)
-    → ((d : Device) → length (d .body) ≡ bodySize (d .kind) → stepOf (stateOf (Rom r)) (d .kind) (d .body) level ≡ s) → Sized (map device ms)
+    → ((d : Device) → length (d .body) ≡ bodySize (d .kind) → stateAfter (stateOf (Rom r)) (d .kind) (d .body) level ≡ s) → Sized (map device ms)
     → map (nextDevice (Slot sent) level) (stands (stateOf (Rom r)) ms) ≡ stands s ms
 slot-all r s sent level [] f z = refl
 slot-all r s sent level (active d ∷ ms) f z = let h = slot-next r sent level d s (f d (z .0)) in let t = slot-all r s sent level ms f (z .1) in cc
@@ -159,7 +159,7 @@ abbrev pub nextBit : ℕ → LineState
 nextBit k = stateOf (cond (ltb k 63) (Rom (Search (k + 1) Bit)) addressed)
 
 direction-steps : (k : ℕ) (bit : Bool) (d : Device) → k < 64 → length (d .body) ≡ bodySize (d .kind)
-    → stepOf (searching k Direction) (d .kind) (d .body) bit ≡ stateOf (cond (Bool·beq (bitAt (d .body) k) bit) (cond (ltb k 63) (Rom (Search (k + 1) Bit)) addressed) waiting)
+    → stateAfter (searching k Direction) (d .kind) (d .body) bit ≡ stateOf (cond (Bool·beq (bitAt (d .body) k) bit) (cond (ltb k 63) (Rom (Search (k + 1) Bit)) addressed) waiting)
 unfolding romRange romStep afterSearch afterDirection
 direction-steps k bit d low h = rom-step (Search k Direction) (d .kind) (d .body) h (lt-ltb k 64 low) bit
 

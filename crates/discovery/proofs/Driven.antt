@@ -11,7 +11,7 @@ use lib.Dec.{eqb}
 use Rattle.master.specs.declared.Master.{Master}
 use Rattle.master.specs.Master.{Said, event, end, says, after, nextOf}
 use Rattle.master.specs.Drive.{lastFrom, sent, eventsFrom, codeCompleted, codesFrom}
-use Rattle.bus.specs.Bus.{Device, eventOf, levelOf, nextDevice, busStepAt, busStep, answerOf, withAnswer, runTrace}
+use Rattle.bus.specs.Bus.{Device, eventOf, levelOf, nextDevice, busStepAt, busStep, answerByte, withAnswer, runTrace}
 use Rattle.discovery.proofs.Codes.{differ}
 use Rattle.discovery.specs.Search.{Search, stopped, preceded, exchange, searchFrom}
 
@@ -37,12 +37,12 @@ follow here q = q
 follow {d = d} (on {code = code} {codes = codes} s l a w b c p) q = rw (append-assoc code codes d) (on s l a w b c (follow p q))
 
 -- a level is known by its byte
-pub level-byte : (level : Bool) → not (eqb (answerOf level) 0) ≡ level
-unfolding answerOf
+pub level-byte : (level : Bool) → not (eqb (answerByte level) 0) ≡ level
+unfolding answerByte
 level-byte true = refl
 level-byte false = refl
 
-pub next-is : (m : Master) (level : Bool) → nextOf m (answerOf level) ≡ after m level
+pub next-is : (m : Master) (level : Bool) → nextOf m (answerByte level) ≡ after m level
 next-is m level = ap (after m) (level-byte level)
 
 -- the run of an event and a trace
@@ -50,7 +50,7 @@ abbrev answersTo : List ℕ → List Device → List ℕ
 answersTo trace ds = runTrace trace ds .answers
 
 run-answers : (e : ℕ) (trace : List ℕ) (ds es : List Device) (level : Bool) → levelOf (eventOf e) ds ≡ level → map (nextDevice (eventOf e) level) ds ≡ es
-    → answersTo (e ∷ trace) ds ≡ answerOf level ∷ answersTo trace es
+    → answersTo (e ∷ trace) ds ≡ answerByte level ∷ answersTo trace es
 unfolding runTrace busStep busStepAt withAnswer
 run-answers e trace ds es level l w = rw (l, w)
 
@@ -94,20 +94,20 @@ unfolding runTrace eventsFrom sent
 driven-events x here z = ap (λ (y : Said). sent y []) z
 driven-events x (on {m = m} {n = n} {ds = ds} {es = es} {e = e} {level = level} {trace = trace} s l a w b c p) z =
     ap (eventsFrom m) (run-answers e trace ds es level l w)
-    ∙ ap (λ (y : Said). sent y (eventsFrom (nextOf m (answerOf level)) (answersTo trace es))) s
+    ∙ ap (λ (y : Said). sent y (eventsFrom (nextOf m (answerByte level)) (answersTo trace es))) s
     ∙ ap (λ (y : Master). e ∷ eventsFrom y (answersTo trace es)) (next-is m level ∙ a) ∙ ap (λ (y : List ℕ). e ∷ y) (driven-events x p z)
 
 -- ---- the search
 
 exchanged : (m n : Master) (ds es : List Device) (e : ℕ) (level : Bool) (rest : Master → List Device → Search) → says m ≡ event e → levelOf (eventOf e) ds ≡ level
     → after m level ≡ n → map (nextDevice (eventOf e) level) ds ≡ es
-    → exchange (says m) m ds rest ≡ preceded e (answerOf level) (codeCompleted (m .passes) n) (rest n es)
+    → exchange (says m) m ds rest ≡ preceded e (answerByte level) (codeCompleted (m .passes) n) (rest n es)
 unfolding exchange busStep busStepAt
 exchanged m n ds es e level rest s l a w =
     ap (λ (y : Said). exchange y m ds rest) s
-    ∙ ap (λ (y : Bool). preceded e (answerOf y) (codeCompleted (m .passes) (nextOf m (answerOf y))) (rest (nextOf m (answerOf y)) (map (nextDevice (eventOf e) y) ds))) l
-    ∙ ap (λ (y : Master). preceded e (answerOf level) (codeCompleted (m .passes) y) (rest y (map (nextDevice (eventOf e) level) ds))) (next-is m level ∙ a)
-    ∙ ap (λ (y : List Device). preceded e (answerOf level) (codeCompleted (m .passes) n) (rest n y)) w
+    ∙ ap (λ (y : Bool). preceded e (answerByte y) (codeCompleted (m .passes) (nextOf m (answerByte y))) (rest (nextOf m (answerByte y)) (map (nextDevice (eventOf e) y) ds))) l
+    ∙ ap (λ (y : Master). preceded e (answerByte level) (codeCompleted (m .passes) y) (rest y (map (nextDevice (eventOf e) level) ds))) (next-is m level ∙ a)
+    ∙ ap (λ (y : List Device). preceded e (answerByte level) (codeCompleted (m .passes) n) (rest n y)) w
 
 -- with a budget for all events it is the drive to the master's end
 pub driven-search : {m r : Master} {ds fs : List Device} {t c : List ℕ} (x most : ℕ) → Driven m ds t c r fs → says r ≡ end x → length t ≤ most
@@ -118,10 +118,10 @@ driven-search {r = r} {fs = fs} x (suc most) here z h = ap (λ (y : Said). excha
 driven-search x zero (on s l a w b c p) z h = absurd (not-suc-le-zero h)
 driven-search {r = r} {fs = fs} x (suc most) (on {m = m} {n = n} {ds = ds} {es = es} {e = e} {level = level} {code = code} {trace = trace} {codes = codes} s l a w b c p) z h =
     let rest = driven-search x most p z (le-of-suc-le-suc h) in
-    let seen : answersTo (e ∷ trace) ds ≡ answerOf level ∷ answersTo trace es = run-answers e trace ds es level l w in
+    let seen : answersTo (e ∷ trace) ds ≡ answerByte level ∷ answersTo trace es = run-answers e trace ds es level l w in
     exchanged m n ds es e level (searchFrom most) s l a w
-    ∙ ap (λ (y : Search). preceded e (answerOf level) (codeCompleted (m .passes) n) y) rest
-    ∙ ap (λ (y : List ℕ). record { trace = e ∷ trace; levels = answerOf level ∷ answersTo trace es; codes = y ++ codes; master = r; devices = fs }) c
+    ∙ ap (λ (y : Search). preceded e (answerByte level) (codeCompleted (m .passes) n) y) rest
+    ∙ ap (λ (y : List ℕ). record { trace = e ∷ trace; levels = answerByte level ∷ answersTo trace es; codes = y ++ codes; master = r; devices = fs }) c
     ∙ ap (λ (y : List ℕ). record { trace = e ∷ trace; levels = y; codes = code ++ codes; master = r; devices = fs }) (sym seen)
 
 -- ---- step by step
@@ -134,11 +134,11 @@ driven-first (on s l a w b c p) h = s
 abbrev steppedAt : Master → List ℕ → ℕ → Master
 steppedAt m levels i = nextOf (lastFrom m (take i levels)) (getD levels i 0)
 
-stepped-first : (m : Master) (level : Bool) (levels : List ℕ) → steppedAt m (answerOf level ∷ levels) 0 ≡ after m level
+stepped-first : (m : Master) (level : Bool) (levels : List ℕ) → steppedAt m (answerByte level ∷ levels) 0 ≡ after m level
 unfolding lastFrom
 stepped-first m level levels = next-is m level
 
-stepped-later : (m : Master) (level : Bool) (levels : List ℕ) (i : ℕ) → steppedAt m (answerOf level ∷ levels) (suc i) ≡ steppedAt (after m level) levels i
+stepped-later : (m : Master) (level : Bool) (levels : List ℕ) (i : ℕ) → steppedAt m (answerByte level ∷ levels) (suc i) ≡ steppedAt (after m level) levels i
 unfolding lastFrom
 stepped-later m level levels i = ap (λ (y : Master). steppedAt y levels i) (next-is m level)
 

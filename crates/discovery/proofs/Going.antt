@@ -14,9 +14,9 @@ use Rattle.image.proofs.Accepted.{Known, inside}
 use Rattle.device.specs.declared.LineState.{LineState}
 use Rattle.device.specs.Device.{waitingState}
 use Rattle.bus.specs.declared.Event.{Event}
-use Rattle.bus.specs.Bus.{Device, deviceOf, eventOf, levelOf, nextState, nextBody, nextDevice, answerOf}
+use Rattle.bus.specs.Bus.{Device, deviceOf, eventOf, levelOf, nextState, nextBody, nextDevice, answerByte}
 use Rattle.bus.specs.Run.{devicesFrom, waitingDevices}
-use Rattle.bus.specs.Loops.{placeOf, deviceAt, deviceIn, turnState, devicesIn, levelOn}
+use Rattle.bus.specs.Loops.{placeIn, deviceAt, deviceIn, turnState, devicesIn, levelOn}
 use Rattle.master.specs.declared.Master.{Master}
 use Rattle.master.specs.Master.{event, end, says, after, nextOf}
 use Rattle.master.specs.Drive.{started, codeCompleted}
@@ -92,12 +92,12 @@ module _ (image : List ℕ) (searched : Searched image (searchOf image)) {m : Ma
 
   -- it is sent, the devices answer, and the master is stepped with their level
   pub going-on : (e : ℕ) → Going image m lines trace codes → says m ≡ event e
-      → Going image (nextOf m (answerOf (levelIn image lines e))) (linesAfter image lines e) (trace ++ e ∷ [])
-      (codes ++ codeCompleted (m .passes) (nextOf m (answerOf (levelIn image lines e))))
+      → Going image (nextOf m (answerByte (levelIn image lines e))) (linesAfter image lines e) (trace ++ e ∷ [])
+      (codes ++ codeCompleted (m .passes) (nextOf m (answerByte (levelIn image lines e))))
   going-on e g h =
       let ds = devicesFrom image 0 lines in
       let r = driven-goes e 0 (g .driven) (searched .ended) h in
-      let next : nextOf m (answerOf (levelIn image lines e)) ≡ after m (levelIn image lines e) = next-is m (levelIn image lines e) in
+      let next : nextOf m (answerByte (levelIn image lines e)) ≡ after m (levelIn image lines e) = next-is m (levelIn image lines e) in
       let same : bodies (map (nextDevice (eventOf e) (levelIn image lines e)) ds) ≡ bodies ds = rw (r .is-level) (r .same) in
       let step : Driven (after m (levelIn image lines e)) (map (nextDevice (eventOf e) (levelIn image lines e)) ds) (r .events) (r .codes) (searchOf image .master) (searchOf image .devices) = rw (r .is-level) (r .rest) in
       record {
@@ -116,7 +116,7 @@ module _ (image : List ℕ) (searched : Searched image (searchOf image)) {m : Ma
 module _ (image : List ℕ) (known : Known image) where
   -- a device that the bus finds by its place is the image's
   device-in : (i : ℕ) (state : LineState) → i < countOf image → deviceIn image i state ≡ deviceOf (kindAt image i) (bodyAt image i) state
-  unfolding deviceIn deviceAt placeOf
+  unfolding deviceIn deviceAt placeIn
   device-in i state h =
       let size : offsetAt image i + bodySize (kindAt image i) - offsetAt image i ≡ bodySize (kindAt image i) = omega arith in
       rw (lt-ltb i (countOf image) h, le-leb (offsetAt image i + bodySize (kindAt image i)) (length image) (inside image known i h)) (rw size)

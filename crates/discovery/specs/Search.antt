@@ -4,7 +4,7 @@ use mathlib.Core.List.{List, [], _∷_, _++_}
 use Rattle.master.specs.declared.Master.{Master}
 use Rattle.master.specs.Master.{mostPasses, Said, event, end, says, nextOf}
 use Rattle.master.specs.Drive.{started, codeCompleted, passEvents}
-use Rattle.bus.specs.Bus.{Device, eventOf, busStep, answerOf}
+use Rattle.bus.specs.Bus.{Device, eventOf, busStep, answerByte}
 use Rattle.bus.specs.Run.{waitingDevices}
 
 -- the trace sent, the levels that the master saw, the bytes of the codes completed, and the master and the devices that are left
@@ -29,7 +29,7 @@ unfoldable pub exchange : Said → Master → List Device → (Master → List D
 exchange (end number) m ds rest = stopped m ds
 exchange (event e) m ds rest =
     let bus = busStep (eventOf e) ds in
-    let level = answerOf (bus .level) in
+    let level = answerByte (bus .level) in
     preceded e level (codeCompleted (m .passes) (nextOf m level)) (rest (nextOf m level) (bus .devices))
 
 -- so many events at most

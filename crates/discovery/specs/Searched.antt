@@ -8,7 +8,7 @@ use Rattle.master.specs.Master.{codeBytes, event, end, reset, fresh, says, next
 use Rattle.master.specs.Drive.{started, lastFrom, eventsFrom, codesFrom, passEvents}
 use Rattle.bus.specs.Bus.{Run, runTrace}
 use Rattle.device.specs.declared.LineState.{LineState}
-use Rattle.bus.specs.Run.{waitingDevices, statesOf, outcome, runOf}
+use Rattle.bus.specs.Run.{waitingDevices, statesOf, runOutcome, runOf}
 use Rattle.discovery.specs.Search.{Search}
 use Rattle.discovery.specs.Words.{Valid, Precedes, codeNumber, resetsIn, slotsIn, passesIn, Passes, passCodes}
 
@@ -49,8 +49,8 @@ pub record Searched (image : List ℕ) (s : Search) : Type 0 where
   pub left : s .devices ≡ runOn image (s .trace) .devices
   -- with the room that refusal 7 asks it is not refused, answers just these levels and leaves the image as it was
   pub replayed : (answers : List ℕ) (lines : List LineState) → length (s .trace) ≤ length answers → countOf image ≤ length lines
-      → runOf (s .trace) image answers lines
-      ≡ outcome 0 image (s .levels ++ drop (length (s .trace)) answers) (statesOf (s .devices) ++ drop (countOf image) lines)
+      → runOf image (s .trace) answers lines
+      ≡ runOutcome 0 image (s .levels ++ drop (length (s .trace)) answers) (statesOf (s .devices) ++ drop (countOf image) lines)
   -- the trace is n passes, or one reset
   pub shape : TraceOf (countOf image) (s .trace)
   pub events : length (s .trace) ≡ eventsFor (countOf image)

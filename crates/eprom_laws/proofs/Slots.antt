@@ -19,7 +19,7 @@ use Rattle.line.specs.declared.EpromStage.{EpromStage}
 use Rattle.line.specs.declared.EpromStage.the-variants.{ReadAddress, ReadCrc, ReadByte, WriteAddress, WriteData, WriteCrc, PulseDue, Stored}
 use Rattle.line.specs.declared.Stage.{Stage}
 use Rattle.eprom.specs.Eprom.{inEprom, fieldRead, readStart, writeStart, addressBytes, readLatch, writeLatch, readAddressStep, writeAddressStep, stored, afterCrc, readCrcStep, afterByte, readByteStep, writeDataStep, writeCrcStep, nextAddress, storedStep, epromSends, epromStep}
-use Rattle.eprom_laws.specs.Events.{LineEvent, slot, pulse, slots, functionSends, functionStep, functionPulse, functionProgram, levelsSent, stageAfter, bodyAfter, Over}
+use Rattle.eprom_laws.specs.Events.{LineEvent, slot, pulse, slots, functionSends, functionStep, functionPulse, functionProgram, levelsSent, stageAfterEvents, bodyAfterEvents, Over}
 use Rattle.eprom_laws.specs.Sent.{lowBits, lineBits}
 
 -- ---- bits on the line
@@ -37,22 +37,22 @@ address-bits address = refl
 
 module _ (fs : List LineEvent) where
   levels-append : (s : Stage) (body : List ℕ) (es : List LineEvent)
-      → levelsSent s body (es ++ fs) ≡ levelsSent s body es ++ levelsSent (stageAfter s body es) (bodyAfter s body es) fs
-  unfolding levelsSent stageAfter bodyAfter
+      → levelsSent s body (es ++ fs) ≡ levelsSent s body es ++ levelsSent (stageAfterEvents s body es) (bodyAfterEvents s body es) fs
+  unfolding levelsSent stageAfterEvents bodyAfterEvents
   levels-append s body [] = refl
   levels-append s body (slot l ∷ es) = ap (λ (xs : List Bool). functionSends s body ∷ xs) (levels-append (functionStep s body l) body es)
   levels-append s body (pulse ∷ es) = levels-append (functionPulse s) (functionProgram s body) es
 
   stage-append : (s : Stage) (body : List ℕ) (es : List LineEvent)
-      → stageAfter s body (es ++ fs) ≡ stageAfter (stageAfter s body es) (bodyAfter s body es) fs
-  unfolding stageAfter bodyAfter
+      → stageAfterEvents s body (es ++ fs) ≡ stageAfterEvents (stageAfterEvents s body es) (bodyAfterEvents s body es) fs
+  unfolding stageAfterEvents bodyAfterEvents
   stage-append s body [] = refl
   stage-append s body (slot l ∷ es) = stage-append (functionStep s body l) body es
   stage-append s body (pulse ∷ es) = stage-append (functionPulse s) (functionProgram s body) es
 
   body-append : (s : Stage) (body : List ℕ) (es : List LineEvent)
-      → bodyAfter s body (es ++ fs) ≡ bodyAfter (stageAfter s body es) (bodyAfter s body es) fs
-  unfolding stageAfter bodyAfter
+      → bodyAfterEvents s body (es ++ fs) ≡ bodyAfterEvents (stageAfterEvents s body es) (bodyAfterEvents s body es) fs
+  unfolding stageAfterEvents bodyAfterEvents
   body-append s body [] = refl
   body-append s body (slot l ∷ es) = body-append (functionStep s body l) body es
   body-append s body (pulse ∷ es) = body-append (functionPulse s) (functionProgram s body) es
@@ -66,12 +66,12 @@ then {s} {t} {u} {b} {c} {d} {es} {fs} p q = record {
 }
 
 pub nothing : {s : Stage} {b : List ℕ} → Over s b [] [] s b
-unfolding levelsSent stageAfter bodyAfter
+unfolding levelsSent stageAfterEvents bodyAfterEvents
 nothing = record { levels = refl; stage = refl; stored = refl }
 
 pub one-slot : {s t : Stage} {b c : List ℕ} {es : List LineEvent} {x l : Bool} {xs : List Bool} (e : EpromStage)
     → Over s b es xs t c → epromSends e b ≡ x → epromStep e b l ≡ s → Over (inEprom e) b (slot l ∷ es) (x ∷ xs) t c
-unfolding levelsSent stageAfter bodyAfter
+unfolding levelsSent stageAfterEvents bodyAfterEvents
 one-slot e r p q = record {
   levels = rw (p, q, r .levels);
   stage = rw (q, r .stage);
@@ -80,7 +80,7 @@ one-slot e r p q = record {
 
 -- a device that waits answers 1
 pub ones-after : (body : List ℕ) (ls : List Bool) → Over waiting body (slots ls) (replicate (length ls) true) waiting body
-unfolding slots levelsSent stageAfter bodyAfter
+unfolding slots levelsSent stageAfterEvents bodyAfterEvents
 ones-after body [] = nothing
 ones-after body (l ∷ ls) =
     let r = ones-after body ls in

@@ -13,9 +13,9 @@ use Rattle.line.specs.declared.EpromStage.{EpromStage}
 use Rattle.line.specs.declared.EpromStage.the-variants.{WriteData, PulseDue, Stored}
 use Rattle.line.specs.declared.Stage.{Stage}
 use Rattle.eprom.specs.Eprom.{inEprom, fieldLength, writeCode, writeStart, epromCommand, cut, addressBytes, commandCrc, writeLatch, stored, programmed, nextAddress, epromPulse, epromProgram}
-use Rattle.eprom_laws.specs.Events.{LineEvent, pulse, slots, levelsSent, stageAfter, bodyAfter, Over}
+use Rattle.eprom_laws.specs.Events.{LineEvent, pulse, slots, levelsSent, stageAfterEvents, bodyAfterEvents, Over}
 use Rattle.eprom_laws.specs.Sent.{lowBits, lineBits}
-use Rattle.eprom_laws.specs.Written.{Written, passEvents, passSent}
+use Rattle.eprom_laws.specs.Written.{Written, writePassEvents, writePassSent}
 use Rattle.eprom_laws.proofs.Slots.{low-length, then, sent-over, write-crc-sent, stored-sent, write-address-heard, data-heard}
 
 pub write-command : (field : Field) → epromCommand (writeCode field) ≡ writeStart field
@@ -39,7 +39,7 @@ last-pass field a h = simp (le-ltb _ _ h)
 -- the pulse
 pulse-then : {t : Stage} {b c : List ℕ} {es : List LineEvent} {xs : List Bool} (e : EpromStage)
     → Over (epromPulse e) (epromProgram e b) es xs t c → Over (inEprom e) b (pulse ∷ es) xs t c
-unfolding levelsSent stageAfter bodyAfter
+unfolding levelsSent stageAfterEvents bodyAfterEvents
 pulse-then e p = record { levels = p .levels; stage = p .stage; stored = p .stored }
 
 module _ (field : Field) where
@@ -57,9 +57,9 @@ module _ (field : Field) where
   sent-back body a ls e = sent-over (stored-sent body field a) ls (e ∙ sym (low-length 8 _))
 
   pub pass : (body : List ℕ) (a register : ℕ) (w : Written)
-      → Over (inEprom (WriteData field a 0 0 register)) body (passEvents w) (passSent field a register (w .byte) body)
+      → Over (inEprom (WriteData field a 0 0 register)) body (writePassEvents w) (writePassSent field a register (w .byte) body)
       (nextAddress field a) (programmed field a (w .byte) body)
-  unfolding passEvents passSent epromPulse epromProgram
+  unfolding writePassEvents writePassSent epromPulse epromProgram
   pass body a register w =
       then (data-and-crc body a register (w .byte) (w .fits) (w .crcLevels) (w .crcEight))
       (pulse-then (PulseDue field a (w .byte)) (sent-back (programmed field a (w .byte) body) a (w .backLevels) (w .backEight)))

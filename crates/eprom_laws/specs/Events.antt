@@ -52,18 +52,18 @@ levelsSent s body [] = []
 levelsSent s body (slot level ∷ events) = functionSends s body ∷ levelsSent (functionStep s body level) body events
 levelsSent s body (pulse ∷ events) = levelsSent (functionPulse s) (functionProgram s body) events
 
-unfoldable pub stageAfter : Stage → List ℕ → List LineEvent → Stage
-stageAfter s body [] = s
-stageAfter s body (slot level ∷ events) = stageAfter (functionStep s body level) body events
-stageAfter s body (pulse ∷ events) = stageAfter (functionPulse s) (functionProgram s body) events
+unfoldable pub stageAfterEvents : Stage → List ℕ → List LineEvent → Stage
+stageAfterEvents s body [] = s
+stageAfterEvents s body (slot level ∷ events) = stageAfterEvents (functionStep s body level) body events
+stageAfterEvents s body (pulse ∷ events) = stageAfterEvents (functionPulse s) (functionProgram s body) events
 
-unfoldable pub bodyAfter : Stage → List ℕ → List LineEvent → List ℕ
-bodyAfter s body [] = body
-bodyAfter s body (slot level ∷ events) = bodyAfter (functionStep s body level) body events
-bodyAfter s body (pulse ∷ events) = bodyAfter (functionPulse s) (functionProgram s body) events
+unfoldable pub bodyAfterEvents : Stage → List ℕ → List LineEvent → List ℕ
+bodyAfterEvents s body [] = body
+bodyAfterEvents s body (slot level ∷ events) = bodyAfterEvents (functionStep s body level) body events
+bodyAfterEvents s body (pulse ∷ events) = bodyAfterEvents (functionPulse s) (functionProgram s body) events
 
 -- from a stage and a body, over events, the device sends these levels and comes to this stage and this body
 pub record Over (s : Stage) (body : List ℕ) (events : List LineEvent) (sent : List Bool) (t : Stage) (after : List ℕ) : Type 0 where
   pub levels : levelsSent s body events ≡ sent
-  pub stage : stageAfter s body events ≡ t
-  pub stored : bodyAfter s body events ≡ after
+  pub stage : stageAfterEvents s body events ≡ t
+  pub stored : bodyAfterEvents s body events ≡ after

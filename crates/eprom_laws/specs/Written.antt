@@ -22,26 +22,26 @@ pub record Written : Type 0 where
   pub backEight : length backLevels ≡ 8
 
 -- a pass: the data byte, its CRC, the pulse, the stored byte
-unfoldable pub passEvents : Written → List LineEvent
-passEvents w = (slots (lowBits 8 (w .byte)) ++ slots (w .crcLevels)) ++ (pulse ∷ slots (w .backLevels))
+unfoldable pub writePassEvents : Written → List LineEvent
+writePassEvents w = (slots (lowBits 8 (w .byte)) ++ slots (w .crcLevels)) ++ (pulse ∷ slots (w .backLevels))
 
 -- what the device sends in it at an address, with the register as it is at its start: ones, the CRC, the byte that is then stored
-unfoldable pub passSent : Field → ℕ → ℕ → ℕ → List ℕ → List Bool
-passSent field address register byte body =
+unfoldable pub writePassSent : Field → ℕ → ℕ → ℕ → List ℕ → List Bool
+writePassSent field address register byte body =
     (replicate 8 true ++ lowBits 8 (crcFrom register (byte ∷ [])))
     ++ lowBits 8 (stored field address (programmed field address byte body))
 
 -- passes one after another
 unfoldable pub writeEvents : List Written → List LineEvent
 writeEvents [] = []
-writeEvents (w ∷ ws) = passEvents w ++ writeEvents ws
+writeEvents (w ∷ ws) = writePassEvents w ++ writeEvents ws
 
 -- what the device sends in them from an address on, as long as the field goes; before each later pass the register is loaded with the
 -- new address
 unfoldable pub writeSent : Field → ℕ → ℕ → List Written → List ℕ → List Bool
 writeSent field address register [] body = []
 writeSent field address register (w ∷ ws) body =
-    passSent field address register (w .byte) body
+    writePassSent field address register (w .byte) body
     ++ writeSent field (address + 1) (address + 1) ws (programmed field address (w .byte) body)
 
 -- the body after them, and the stage: after the last address the device waits

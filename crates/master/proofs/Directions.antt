@@ -14,7 +14,7 @@ use Rattle.master.specs.declared.Discrepancy.{Discrepancy}
 use Rattle.master.specs.declared.Master.{Master}
 use Rattle.master.specs.Master.{codeBits, sendDirection}
 use Rattle.bits.proofs.Laws.{clear-room}
-use Rattle.bits.specs.Bit.{bitOf, bitAt, byteOf, placeOf, atLevel, withBit, putBit}
+use Rattle.bits.specs.Bit.{bitOf, bitAt, byteOf, bitPlace, atLevel, withBit, putBit}
 
 -- ---- a bit of a number
 
@@ -121,40 +121,40 @@ level-fits b i false h low = choose (bitOf b i)
 
 -- ---- a bit put into bytes
 
-put-is : (s : List ℕ) (i : ℕ) (level : Bool) → putBit s i level ≡ set s (byteOf i) (atLevel (getD s (byteOf i) 0) (placeOf i) level)
+put-is : (s : List ℕ) (i : ℕ) (level : Bool) → putBit s i level ≡ set s (byteOf i) (atLevel (getD s (byteOf i) 0) (bitPlace i) level)
 unfolding putBit withBit
-put-is s i level = rw (lt-leb 8 (placeOf i) (omega arith))
+put-is s i level = rw (lt-leb 8 (bitPlace i) (omega arith))
 
 module _ (s : List ℕ) (i : ℕ) (level : Bool) where
   pub put-same : i < 8 * length s → bitAt (putBit s i level) i ≡ level
   unfolding bitAt
   put-same h =
-      ap (λ (x : List ℕ). bitOf (getD x (byteOf i) 0) (placeOf i)) (put-is s i level)
-      ∙ ap (λ (x : ℕ). bitOf x (placeOf i)) (getD-set-same s (byteOf i) _ 0 (omega arith)) ∙ level-same (getD s (byteOf i) 0) (placeOf i) level
+      ap (λ (x : List ℕ). bitOf (getD x (byteOf i) 0) (bitPlace i)) (put-is s i level)
+      ∙ ap (λ (x : ℕ). bitOf x (bitPlace i)) (getD-set-same s (byteOf i) _ 0 (omega arith)) ∙ level-same (getD s (byteOf i) 0) (bitPlace i) level
 
   pub put-other : (j : ℕ) → (i ≡ j → ⊥) → i < 8 * length s → bitAt (putBit s i level) j ≡ bitAt s j
   unfolding bitAt
-  put-other j n h = ap (λ (x : List ℕ). bitOf (getD x (byteOf j) 0) (placeOf j)) (put-is s i level) ∙ choose (ℕ-discrete (byteOf j) (byteOf i))
+  put-other j n h = ap (λ (x : List ℕ). bitOf (getD x (byteOf j) 0) (bitPlace j)) (put-is s i level) ∙ choose (ℕ-discrete (byteOf j) (byteOf i))
     where
       v : ℕ
-      v = atLevel (getD s (byteOf i) 0) (placeOf i) level
+      v = atLevel (getD s (byteOf i) 0) (bitPlace i) level
 
-      choose : Dec (byteOf j ≡ byteOf i) → bitOf (getD (set s (byteOf i) v) (byteOf j) 0) (placeOf j) ≡ bitOf (getD s (byteOf j) 0) (placeOf j)
-      choose (no d) = ap (λ (x : ℕ). bitOf x (placeOf j)) (getD-set-other s (byteOf i) (byteOf j) v 0 d)
+      choose : Dec (byteOf j ≡ byteOf i) → bitOf (getD (set s (byteOf i) v) (byteOf j) 0) (bitPlace j) ≡ bitOf (getD s (byteOf j) 0) (bitPlace j)
+      choose (no d) = ap (λ (x : ℕ). bitOf x (bitPlace j)) (getD-set-other s (byteOf i) (byteOf j) v 0 d)
       choose (yes d) =
           rw d
-          (ap (λ (x : ℕ). bitOf x (placeOf j)) (getD-set-same s (byteOf i) v 0 (omega arith))
-          ∙ level-other (getD s (byteOf i) 0) (placeOf i) (placeOf j) level (λ e. n (omega arith)))
+          (ap (λ (x : ℕ). bitOf x (bitPlace j)) (getD-set-same s (byteOf i) v 0 (omega arith))
+          ∙ level-other (getD s (byteOf i) 0) (bitPlace i) (bitPlace j) level (λ e. n (omega arith)))
 
   pub put-fits : ((j : ℕ) → getD s j 0 < 256) → i < 8 * length s → (j : ℕ) → getD (putBit s i level) j 0 < 256
   put-fits fits h j = rw (put-is s i level) (choose (ℕ-discrete j (byteOf i)))
     where
       v : ℕ
-      v = atLevel (getD s (byteOf i) 0) (placeOf i) level
+      v = atLevel (getD s (byteOf i) 0) (bitPlace i) level
 
       choose : Dec (j ≡ byteOf i) → getD (set s (byteOf i) v) j 0 < 256
       choose (no d) = rw (getD-set-other s (byteOf i) j v 0 d) (fits j)
-      choose (yes d) = rw (d, getD-set-same s (byteOf i) v 0 (omega arith)) (level-fits (getD s (byteOf i) 0) (placeOf i) level (fits (byteOf i)) (omega arith))
+      choose (yes d) = rw (d, getD-set-same s (byteOf i) v 0 (omega arith)) (level-fits (getD s (byteOf i) 0) (bitPlace i) level (fits (byteOf i)) (omega arith))
 
 -- ---- a pass
 

@@ -13,7 +13,7 @@ use Rattle.master.specs.declared.Stage.{Stage}
 use Rattle.master.specs.declared.Stage.the-variants.{Fresh, Reset, Command, FirstRead, SecondRead, Direction, Ended}
 use Rattle.master.specs.declared.Master.{Master}
 use Rattle.master.specs.Master.{mostPasses, Said, event, end, endNumber, reset, said, answerOf, says, stageInRange, inRange, fresh, withStage, afterReset, stageAfter, after, nextOf}
-use Rattle.master.specs.Drive.{started, passEvents, traceRoom, codeRoom, sent, eventsFrom, codeCompleted, codesFrom, lastFrom}
+use Rattle.master.specs.Drive.{started, passEvents, feedTraceRoom, feedCodeRoom, sent, eventsFrom, codeCompleted, codesFrom, lastFrom}
 use Rattle.master.proofs.Laws.{ended-stays}
 use Rattle.master.proofs.Clock.{Reached, reached-on, reached-started, started-passes, reached-passes, reached-sends, reached-ten, completed-size}
 
@@ -83,8 +83,8 @@ events-most [] r h = sent-most [] r h (λ k. omega arith)
 events-most {m} (level ∷ levels) r h =
     sent-most (eventsFrom (nextOf m level) levels) r h (λ k. events-most levels (reached-on r (not (eqb level 0))) k)
 
-pub events-fit : (levels : List ℕ) → length (eventsFrom started levels) ≤ traceRoom (length levels)
-unfolding traceRoom
+pub events-fit : (levels : List ℕ) → length (eventsFrom started levels) ≤ feedTraceRoom (length levels)
+unfolding feedTraceRoom
 events-fit levels =
     let a = events-levels started levels in
     let b = events-most levels reached-started (omega arith) in
@@ -107,8 +107,8 @@ last-reached {m} {i} (level ∷ levels) r =
     subst (λ (k : ℕ). Reached (lastFrom (nextOf m level) levels) k) (suc-add i (length levels) ∙ sym (add-suc i (length levels)))
     (last-reached levels (reached-on r (not (eqb level 0))))
 
-pub codes-fit : (levels : List ℕ) → length (codesFrom started levels) ≤ codeRoom (length levels)
-unfolding codeRoom
+pub codes-fit : (levels : List ℕ) → length (codesFrom started levels) ≤ feedCodeRoom (length levels)
+unfolding feedCodeRoom
 codes-fit levels =
     let a = codes-size levels reached-started in
     let b = reached-passes (last-reached levels reached-started) in

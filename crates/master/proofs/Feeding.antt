@@ -15,7 +15,7 @@ use Rattle.master.specs.declared.Outcome.{Outcome}
 use Rattle.master.specs.declared.Driven.{Driven}
 use Rattle.master.specs.declared.Master.{Master}
 use Rattle.master.specs.Master.{event, end, endNumber, said, answerOf, says, nextOf}
-use Rattle.master.specs.Drive.{started, sent, eventsFrom, codeCompleted, codesFrom, lastFrom, outcomeOf, fed, refused, driveResult, outcomeNumber, numberSaid, driveNumber, traceRoom, codeRoom, roomRefused, traceAfter, codesAfter}
+use Rattle.master.specs.Drive.{started, sent, eventsFrom, codeCompleted, codesFrom, lastFrom, outcomeOf, fed, refused, driveResult, outcomeNumber, numberSaid, driveNumber, feedTraceRoom, feedCodeRoom, roomRefused, traceAfter, codesAfter}
 use Rattle.master.proofs.Clock.{Reached, reached-on, reached-started, started-passes, completed-size}
 use Rattle.master.proofs.Driving.{ended-last, ended-events, ended-codes, events-fit, codes-fit}
 use Rattle.master.proofs.Stores.{store-append, store-front}
@@ -124,7 +124,7 @@ module _ (levels trace codes : List ℕ) where
 
   -- with the room, all is written
   pub drive-fed : (r : Driven) (trace′ codes′ : List ℕ) → roomRefused levels trace codes ≡ false
-      → traceRoom (length levels) ≤ length trace → codeRoom (length levels) ≤ length codes
+      → feedTraceRoom (length levels) ≤ length trace → feedCodeRoom (length levels) ≤ length codes
       → r ≡ fed levels
       → trace′ ≡ sets trace 0 (eventsFrom started levels)
       → codes′ ≡ sets codes 0 (codesFrom started levels)

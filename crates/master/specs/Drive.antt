@@ -50,16 +50,16 @@ abbrev pub passEvents : ℕ
 passEvents = 1 + commandBits + 3 * codeBits
 
 -- the events sent: the first, and one more for each level, up to the end of the last pass
-unfoldable pub traceRoom : ℕ → ℕ
-traceRoom levels = min (levels + 1) (mostPasses * passEvents)
+unfoldable pub feedTraceRoom : ℕ → ℕ
+feedTraceRoom levels = min (levels + 1) (mostPasses * passEvents)
 
 -- a code for each pass that the levels can complete
-unfoldable pub codeRoom : ℕ → ℕ
-codeRoom levels = codeBytes * min (levels / passEvents) mostPasses
+unfoldable pub feedCodeRoom : ℕ → ℕ
+feedCodeRoom levels = codeBytes * min (levels / passEvents) mostPasses
 
 -- our own 7: too little room for the trace or the codes
 unfoldable pub roomRefused : List ℕ → List ℕ → List ℕ → Bool
-roomRefused levels trace codes = ltb (length trace) (traceRoom (length levels)) || ltb (length codes) (codeRoom (length levels))
+roomRefused levels trace codes = ltb (length trace) (feedTraceRoom (length levels)) || ltb (length codes) (feedCodeRoom (length levels))
 
 -- ---- the drive
 

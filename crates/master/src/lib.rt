@@ -7,7 +7,7 @@ ghost use mathlib.Core.Path.{_≡_};
 ghost use Prim.Native.Nat.{_*_, _<_};
 ghost use lib.Seq.{sets};
 ghost use Rattle.master.specs.Master.{codeBytes, mostPasses, fresh, withStage, slot, said, answerOf, says, inRange, afterReset, afterCommand, atDiscrepancy, sendDirection, afterReads, completed, afterPass, passEnd, afterDirection, after, nextOf, stepOf};
-ghost use Rattle.master.specs.Drive.{started, eventsFrom, codeCompleted, codesFrom, traceRoom, codeRoom, refused, fed, driveResult, outcomeNumber, driveNumber, traceAfter, codesAfter};
+ghost use Rattle.master.specs.Drive.{started, eventsFrom, codeCompleted, codesFrom, feedTraceRoom, feedCodeRoom, refused, fed, driveResult, outcomeNumber, driveNumber, traceAfter, codesAfter};
 
 // Why a master ended.
 pub enum End {
@@ -355,7 +355,7 @@ pub struct Driven {
 
 // The events that a master can send on so many levels.
 fn trace_room(levels: usize) -> usize
-    ensures { λ r. ⌜ r ≡ traceRoom levels ⌝ }
+    ensures { λ r. ⌜ r ≡ feedTraceRoom levels ⌝ }
 {
     if levels < MOST_EVENTS {
         levels + 1
@@ -366,7 +366,7 @@ fn trace_room(levels: usize) -> usize
 
 // The bytes of the codes that a master can complete on so many levels.
 fn code_room(levels: usize) -> usize
-    ensures { λ r. ⌜ r ≡ codeRoom levels ⌝ }
+    ensures { λ r. ⌜ r ≡ feedCodeRoom levels ⌝ }
 {
     let passes = levels / PASS_EVENTS;
     let most = MOST_PASSES as usize;

@@ -7,7 +7,7 @@ use native.Mathlib.Omega.{arith}
 use lib.ListN.{take}
 use lib.Seq.{getD-take}
 use borrow.Author.Tests.{lt-ltb, le-ltb, ltb-true}
-use Rattle.bits.specs.Bit.{bitAt, bitOf, byteOf, placeOf}
+use Rattle.bits.specs.Bit.{bitAt, bitOf, byteOf, bitPlace}
 use Rattle.line.specs.declared.SearchSlot.the-variants.{Bit, Complement, Direction}
 use Rattle.line.specs.declared.RomStage.{RomStage}
 use Rattle.line.specs.declared.RomStage.the-variants.{Waiting, Command, Read, Match, Search}
@@ -68,7 +68,7 @@ module _ (at : ℕ) (body : List ℕ) where
 -- each of the 64 code bits is in the first 8 bytes
 pub code-bit : (body : List ℕ) (at : ℕ) → at < 64 → bitAt (take 8 body) at ≡ bitAt body at
 unfolding bitAt
-code-bit body at h = ap (λ (byte : ℕ). bitOf byte (placeOf at)) (getD-take 8 body (byteOf at) 0 (omega arith))
+code-bit body at h = ap (λ (byte : ℕ). bitOf byte (bitPlace at)) (getD-take 8 body (byteOf at) 0 (omega arith))
 
 module _ (body other : List ℕ) (same : take 8 body ≡ take 8 other) where
   same-bit : (at : ℕ) → at < 64 → bitAt body at ≡ bitAt other at

@@ -10,7 +10,7 @@ use lib.Dec.{ltb, lit<}
 use Rattle.image.specs.Refusal.{cause, firstOf, imageCauses, imageRefusal}
 use Rattle.bus.proofs.Laws.{first-none}
 use Rattle.discovery.specs.Words.{isReset, isSlot, slotNext, resetsIn, slotsIn, passesIn}
-use Rattle.search.specs.Refusal.{noRoom, searchCauses, searchRefusal}
+use Rattle.search.specs.Refusal.{noSearchRoom, searchCauses, searchRefusal}
 
 pub next-slot : (t : List ℕ) (i : ℕ) → i < length t → slotNext (drop i t) ≡ ltb (getD t i 0) 2
 unfolding slotNext isSlot
@@ -34,6 +34,6 @@ unfolding passesIn
 passes-next t i h = rw (drop-cons t i 0 h, add-one)
 
 -- of an image that is not refused
-pub room-decides : (image : List ℕ) (codes trace lines : ℕ) → imageRefusal image ≡ 0 → searchRefusal image codes trace lines ≡ cond (noRoom image codes trace lines) 7 0
+pub room-decides : (image : List ℕ) (codes trace lines : ℕ) → imageRefusal image ≡ 0 → searchRefusal image codes trace lines ≡ cond (noSearchRoom image codes trace lines) 7 0
 unfolding searchRefusal searchCauses imageCauses imageRefusal firstOf
-room-decides image codes trace lines h = first-none (imageCauses image) (cause 7 (noRoom image codes trace lines) ∷ []) (lit< tt, (lit< tt, (lit< tt, (lit< tt, tt)))) h
+room-decides image codes trace lines h = first-none (imageCauses image) (cause 7 (noSearchRoom image codes trace lines) ∷ []) (lit< tt, (lit< tt, (lit< tt, (lit< tt, tt)))) h

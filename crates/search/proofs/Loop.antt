@@ -14,10 +14,10 @@ use Rattle.image.specs.Image.{countOf, kindAt, offsetAt, bodyAt}
 use Rattle.image.proofs.Accepted.{Known, accepted-known, inside}
 use Rattle.device.specs.declared.LineState.{LineState}
 use Rattle.device.specs.Device.{waitingState}
-use Rattle.bus.specs.Bus.{Device, deviceOf, eventOf, nextState, answerOf, runTrace}
+use Rattle.bus.specs.Bus.{Device, deviceOf, eventOf, nextState, answerByte, runTrace}
 use Rattle.bus.specs.Bus as Bus
 use Rattle.bus.specs.Run.{devicesFrom, statesOf}
-use Rattle.bus.specs.Loops.{placeOf, deviceAt, deviceIn, devicesIn, levelOn, statesAfter}
+use Rattle.bus.specs.Loops.{placeIn, deviceAt, deviceIn, devicesIn, levelOn, statesAfter}
 use Rattle.bus.proofs.Shown.{devices-states}
 use Rattle.bus.proofs.States.{states-length}
 use Rattle.master.specs.declared.Answer.{Answer}
@@ -58,10 +58,10 @@ module _ (image : List ℕ) where
   -- exchange k, at a level
   abbrev pub exchangeWith : ℕ → State → Bool → State
   exchangeWith k s level =
-      state (stepOf (s .step .next) (answerOf level))
+      state (stepOf (s .step .next) (answerByte level))
       (statesAfter image (s .lines) (sentIn s) level)
       (set (s .trace) k (sentIn s))
-      (sets (s .codes) (codeBytes * s .step .next .passes) (codeCompleted (s .step .next .passes) (nextOf (s .step .next) (answerOf level))))
+      (sets (s .codes) (codeBytes * s .step .next .passes) (codeCompleted (s .step .next .passes) (nextOf (s .step .next) (answerByte level))))
 
   unfoldable pub exchanges : ℕ → State → State
   exchanges zero s = s
@@ -83,7 +83,7 @@ module _ (image : List ℕ) where
   codes-length (suc k) s =
       let before = exchanges k s in
       let m = before .step .next in
-      length-sets (before .codes) (codeBytes * m .passes) (codeCompleted (m .passes) (nextOf m (answerOf (levelIn before)))) ∙ codes-length k s
+      length-sets (before .codes) (codeBytes * m .passes) (codeCompleted (m .passes) (nextOf m (answerByte (levelIn before)))) ∙ codes-length k s
 
   -- ---- the devices of an accepted image
 
@@ -91,7 +91,7 @@ module _ (image : List ℕ) where
   place-cut o size = omega arith
 
   device-same : (known : Known image) (i : ℕ) (s : LineState) → i < countOf image → deviceIn image i s ≡ deviceOf (kindAt image i) (bodyAt image i) s
-  unfolding deviceIn deviceAt placeOf
+  unfolding deviceIn deviceAt placeIn
   device-same known i s h =
       let o = offsetAt image i in
       let size = bodySize (kindAt image i) in
@@ -227,7 +227,7 @@ module _ (image codes₀ trace₀ : List ℕ) (lines₀ : List LineState) (ready
         let e = sentIn image s in
         let m = s .step .next in
         let level = G.levelIn image (d .at) e in
-        let code = codeCompleted (m .passes) (nextOf m (answerOf level)) in
+        let code = codeCompleted (m .passes) (nextOf m (answerByte level)) in
         let g = going-on image demand e (d .going) (sends h) in
         let few = going-room image demand e (d .going) (sends h) in
         let cs = length-append (d .found) code in
@@ -236,14 +236,14 @@ module _ (image codes₀ trace₀ : List ℕ) (lines₀ : List LineState) (ready
         let parts = length-append (d .found ++ code) (g .found) in
         let code-fits : length (d .found ++ code) ≤ length codes₀ = let r = ready .code-room in omega arith in
         let trace-fits : length (d .sent ++ e ∷ []) ≤ length trace₀ = let r = ready .trace-room in let z = room-is n in let y = demand .events in omega arith in
-        let grown = completed-size (d .reached) (not (eqb (answerOf level) 0)) in
+        let grown = completed-size (d .reached) (not (eqb (answerByte level) 0)) in
         subst (λ (b : Bool). Doing (suc k) (exchangeWith image k s b)) (sym (level-same e)) (record {
           at = linesAfter image (d .at) e;
           sent = d .sent ++ e ∷ [];
           found = d .found ++ code;
           going = g;
           answered = refl;
-          reached = reached-on (d .reached) (not (eqb (answerOf level) 0));
+          reached = reached-on (d .reached) (not (eqb (answerByte level) 0));
           count = let c = d .count in omega arith;
           sized = let z = d .sized in omega arith;
           traced = ap (λ (j : ℕ). set (s .trace) j e) (sym (d .count)) ∙ ap (λ (l : List ℕ). set l (length (d .sent)) e) (d .traced) ∙ over-more (d .sent) (e ∷ []) trace₀ trace-fits;

@@ -23,8 +23,8 @@ use Rattle.discovery.specs.Searched.{Searched}
 use Rattle.discovery.specs.Words.{Bytes}
 use Rattle.discovery.proofs.Demand.{searched}
 use Rattle.search.specs.declared.Found.{Found}
-use Rattle.search.specs.Refusal.{traceRoom, noRoom, searchCauses, searchRefusal}
-use Rattle.search.specs.Found.{foundIn, Outcome, outcome, Leaves, leftBy, searchedAt, searchedOf}
+use Rattle.search.specs.Refusal.{traceRoom, noSearchRoom, searchCauses, searchRefusal}
+use Rattle.search.specs.Found.{foundIn, SearchOutcome, searchOutcome, SearchLeaves, leftBySearch, searchedAt, searchedOf}
 use Rattle.search.specs.Exchange.{Ready}
 use Rattle.search.proofs.Counts.{room-decides}
 
@@ -51,12 +51,12 @@ module _ (image codes trace : List ℕ) (lines : List LineState) where
 
   accepted : number ≡ 0 → imageRefusal image ≡ 0
   unfolding searchRefusal searchCauses imageRefusal
-  accepted e = none-first (imageCauses image) (cause 7 (noRoom image (length codes) (length trace) (length lines)) ∷ []) e
+  accepted e = none-first (imageCauses image) (cause 7 (noSearchRoom image (length codes) (length trace) (length lines)) ∷ []) e
 
   room : number ≡ 0 → (codeBytes * n ≤ length codes) × (traceRoom n ≤ length trace) × (n ≤ length lines)
-  unfolding noRoom
+  unfolding noSearchRoom
   room e =
-      let none = clear (noRoom image (length codes) (length trace) (length lines)) (sym (room-decides image (length codes) (length trace) (length lines) (accepted e)) ∙ e) in
+      let none = clear (noSearchRoom image (length codes) (length trace) (length lines)) (sym (room-decides image (length codes) (length trace) (length lines) (accepted e)) ∙ e) in
       let first = neither (ltb (length codes) (codeBytes * n) || ltb (length trace) (traceRoom n)) (ltb (length lines) n) none in
       let second = neither (ltb (length codes) (codeBytes * n)) (ltb (length trace) (traceRoom n)) (first .0) in
       (ltb-false (length codes) (codeBytes * n) (second .0), ltb-false (length trace) (traceRoom n) (second .1), ltb-false (length lines) n (first .1))
@@ -86,34 +86,34 @@ module _ (image codes trace : List ℕ) (lines : List LineState) where
   -- ---- what is left
 
   pub shown : number ≡ 0
-      → outcome (foundIn number (take (length (searchOf image .trace)) (over (searchOf image .trace) trace))) (over (searchOf image .codes) codes) (over (searchOf image .trace) trace) (statesOf (searchOf image .devices) ++ drop n begun)
+      → searchOutcome (foundIn number (take (length (searchOf image .trace)) (over (searchOf image .trace) trace))) (over (searchOf image .codes) codes) (over (searchOf image .trace) trace) (statesOf (searchOf image .devices) ++ drop n begun)
       ≡ searchedOf image codes trace lines
-  unfolding searchedOf searchedAt leftBy
+  unfolding searchedOf searchedAt leftBySearch
   shown e =
       let S = searchOf image in
       let rest : drop n begun ≡ drop n lines = ap (drop n) (begun-is e) ∙ drop-at (replicate n waitingState) (drop n lines) n (length-replicate n waitingState) in
-      ap (λ (m : ℕ). outcome (foundIn m (take (length (S .trace)) (over (S .trace) trace))) (over (S .codes) codes) (over (S .trace) trace) (statesOf (S .devices) ++ drop n begun)) e
-      ∙ ap (λ (t : List ℕ). outcome (foundIn 0 t) (over (S .codes) codes) (over (S .trace) trace) (statesOf (S .devices) ++ drop n begun)) (take-at (S .trace) (drop (length (S .trace)) trace) (length (S .trace)) refl)
-      ∙ ap (λ (l : List LineState). outcome (foundIn 0 (S .trace)) (over (S .codes) codes) (over (S .trace) trace) (statesOf (S .devices) ++ l)) rest
+      ap (λ (m : ℕ). searchOutcome (foundIn m (take (length (S .trace)) (over (S .trace) trace))) (over (S .codes) codes) (over (S .trace) trace) (statesOf (S .devices) ++ drop n begun)) e
+      ∙ ap (λ (t : List ℕ). searchOutcome (foundIn 0 t) (over (S .codes) codes) (over (S .trace) trace) (statesOf (S .devices) ++ drop n begun)) (take-at (S .trace) (drop (length (S .trace)) trace) (length (S .trace)) refl)
+      ∙ ap (λ (l : List LineState). searchOutcome (foundIn 0 (S .trace)) (over (S .codes) codes) (over (S .trace) trace) (statesOf (S .devices) ++ l)) rest
       ∙ ap (λ (m : ℕ). searchedAt m image codes trace lines) (sym e)
 
-  refused-at : (m : ℕ) → T (not (eqb m 0)) → outcome (foundIn m (take 0 trace)) codes trace lines ≡ searchedAt m image codes trace lines
+  refused-at : (m : ℕ) → T (not (eqb m 0)) → searchOutcome (foundIn m (take 0 trace)) codes trace lines ≡ searchedAt m image codes trace lines
   unfolding searchedAt
   refused-at zero t = absurd t
   refused-at (suc m) t = refl
 
-  pub refused : T (not (eqb number 0)) → outcome (foundIn number (take 0 trace)) codes trace lines ≡ searchedOf image codes trace lines
+  pub refused : T (not (eqb number 0)) → searchOutcome (foundIn number (take 0 trace)) codes trace lines ≡ searchedOf image codes trace lines
   unfolding searchedOf
   refused t = refused-at number t
 
 -- what a search left, as one equation and as an equation for each thing
-pub leaves : (left : Outcome) (found : Found) (codes trace : List ℕ) (lines : List LineState) → outcome found codes trace lines ≡ left → Leaves left found codes trace lines
+pub leaves : (left : SearchOutcome) (found : Found) (codes trace : List ℕ) (lines : List LineState) → searchOutcome found codes trace lines ≡ left → SearchLeaves left found codes trace lines
 leaves left found codes trace lines e = record {
-  found-is = ap (λ (o : Outcome). o .found) e;
-  codes-are = ap (λ (o : Outcome). o .codes) e;
-  trace-is = ap (λ (o : Outcome). o .trace) e;
-  lines-are = ap (λ (o : Outcome). o .lines) e;
+  found-is = ap (λ (o : SearchOutcome). o .found) e;
+  codes-are = ap (λ (o : SearchOutcome). o .codes) e;
+  trace-is = ap (λ (o : SearchOutcome). o .trace) e;
+  lines-are = ap (λ (o : SearchOutcome). o .lines) e;
 }
 
-pub left-is : (left : Outcome) (found : Found) (codes trace : List ℕ) (lines : List LineState) → Leaves left found codes trace lines → outcome found codes trace lines ≡ left
-left-is left found codes trace lines l = λ i. outcome (l .found-is i) (l .codes-are i) (l .trace-is i) (l .lines-are i)
+pub left-is : (left : SearchOutcome) (found : Found) (codes trace : List ℕ) (lines : List LineState) → SearchLeaves left found codes trace lines → searchOutcome found codes trace lines ≡ left
+left-is left found codes trace lines l = λ i. searchOutcome (l .found-is i) (l .codes-are i) (l .trace-is i) (l .lines-are i)

@@ -14,12 +14,12 @@ unfoldable pub traceRoom : ℕ → ℕ
 traceRoom n = cond (eqb n 0) 1 (passEvents * n)
 
 -- 7: code room under 8n or trace room under 201n, at least 1; our own: fewer than n lent line states
-unfoldable pub noRoom : List ℕ → ℕ → ℕ → ℕ → Bool
-noRoom image codes trace lines = ltb codes (codeBytes * countOf image) || ltb trace (traceRoom (countOf image)) || ltb lines (countOf image)
+unfoldable pub noSearchRoom : List ℕ → ℕ → ℕ → ℕ → Bool
+noSearchRoom image codes trace lines = ltb codes (codeBytes * countOf image) || ltb trace (traceRoom (countOf image)) || ltb lines (countOf image)
 
 -- the lowest number wins
 unfoldable pub searchCauses : List ℕ → ℕ → ℕ → ℕ → List Cause
-searchCauses image codes trace lines = imageCauses image ++ cause 7 (noRoom image codes trace lines) ∷ []
+searchCauses image codes trace lines = imageCauses image ++ cause 7 (noSearchRoom image codes trace lines) ∷ []
 
 unfoldable pub searchRefusal : List ℕ → ℕ → ℕ → ℕ → ℕ
 searchRefusal image codes trace lines = firstOf (searchCauses image codes trace lines)

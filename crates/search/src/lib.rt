@@ -15,13 +15,13 @@ ghost use lib.Seq.{sets};
 ghost use Rattle.image.specs.Image.{countOf};
 ghost use Rattle.master.specs.Master.{codeBytes, fresh, nextOf, stepOf};
 ghost use Rattle.master.specs.Drive.{codeCompleted, over};
-ghost use Rattle.bus.specs.Bus.{answerOf};
+ghost use Rattle.bus.specs.Bus.{answerByte};
 ghost use Rattle.bus.specs.Run.{statesOf};
 ghost use Rattle.discovery.specs.Search.{searchOf};
 ghost use Rattle.discovery.specs.Searched.{Searched};
 ghost use Rattle.discovery.specs.Words.{Bytes, isReset, slotNext, resetsIn, slotsIn, passesIn};
-ghost use Rattle.search.specs.Refusal.{traceRoom, noRoom, searchRefusal};
-ghost use Rattle.search.specs.Found.{foundIn, Leaves, searchedOf};
+ghost use Rattle.search.specs.Refusal.{traceRoom, noSearchRoom, searchRefusal};
+ghost use Rattle.search.specs.Found.{foundIn, SearchLeaves, searchedOf};
 ghost use Rattle.search.specs.Exchange.{hasEvent, eventIn, Ready};
 
 // What a search gives back beside its buffers.
@@ -65,7 +65,7 @@ fn trace_room(n: u8) -> usize
 
 // Cause 7.
 fn lacks_room(image: &[u8], codes: usize, trace: usize, lines: usize) -> bool
-    ensures { λ r. ⌜ r ≡ noRoom (now (image .entry)) codes trace lines ⌝ }
+    ensures { λ r. ⌜ r ≡ noSearchRoom (now (image .entry)) codes trace lines ⌝ }
 {
     let n = image::count(image);
     if codes < CODE_BYTES * wide(n) {
@@ -124,7 +124,7 @@ fn event_in(step: Step) -> u8
 
 // A level as a byte.
 fn answer_of(level: bool) -> u8
-    ensures { λ r. ⌜ r ≡ answerOf level ⌝ }
+    ensures { λ r. ⌜ r ≡ answerByte level ⌝ }
 {
     if level { 1 } else { 0 }
 }
@@ -138,8 +138,8 @@ fn next_step(
     event: u8,
     level: bool,
 ) -> Step
-    ensures { λ r. ⌜ (r ≡ stepOf (step .next) (answerOf level))
-        × (now (codes .exit) ≡ sets (now (codes .entry)) (codeBytes * step .next .passes) (codeCompleted (step .next .passes) (nextOf (step .next) (answerOf level))))
+    ensures { λ r. ⌜ (r ≡ stepOf (step .next) (answerByte level))
+        × (now (codes .exit) ≡ sets (now (codes .entry)) (codeBytes * step .next .passes) (codeCompleted (step .next .passes) (nextOf (step .next) (answerByte level))))
         × (now (trace .exit) ≡ set (now (trace .entry)) sent event) ⌝ }
 {
     bits::put_byte(trace, sent, event);
@@ -251,7 +251,7 @@ fn exchange(image: &[u8], codes: &mut [u8], trace: &mut [u8], lines: &mut [LineS
 
 // The search. What is refused changes nothing; else every device starts waiting, whatever the line states held.
 pub fn search(image: &[u8], codes: &mut [u8], trace: &mut [u8], lines: &mut [LineState]) -> Found
-    ensures { λ r. ⌜ Leaves (searchedOf (now (image .entry)) (now (codes .entry)) (now (trace .entry)) (now (lines .entry))) r (now (codes .exit)) (now (trace .exit)) (now (lines .exit))
+    ensures { λ r. ⌜ SearchLeaves (searchedOf (now (image .entry)) (now (codes .entry)) (now (trace .entry)) (now (lines .entry))) r (now (codes .exit)) (now (trace .exit)) (now (lines .exit))
         × (r .number ≡ 0 → Searched (now (image .entry)) (searchOf (now (image .entry)))) ⌝ }
 {
     let number = refusal(image, codes.len(), trace.len(), lines.len());

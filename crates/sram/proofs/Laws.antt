@@ -11,7 +11,7 @@ use lib.ListN.{length, getD, set, take, drop, length-set, length-drop}
 use lib.Seq.{sets, length-sets, getD-set-other, set-out, take-set-le, take-suc, take-all, getD-drop, length-take-le}
 use lib.Dec.{ltb, leb, eqb}
 use borrow.Author.Tests.{ltb-true, ltb-false}
-use Rattle.bits.specs.Bit.{byteOf, placeOf, bitAt, withBit, putBit, shiftIn}
+use Rattle.bits.specs.Bit.{byteOf, bitPlace, bitAt, withBit, putBit, shiftIn}
 use Rattle.kind.specs.Kind.{codeLength, ta1, ta2, es, scratchpad, memory}
 use Rattle.line.specs.declared.SramStage.{SramStage}
 use Rattle.line.specs.declared.SramStage.the-variants.{WriteAddress, WriteData, ReadRegisters, ReadScratchpad, CopyPattern, Copied, ReadAddress, ReadMemory}
@@ -88,7 +88,7 @@ set-keeps body i v h = record { same-length = length-set body i v; same-code = t
 
 put-keeps : (body : List ℕ) (i : ℕ) (level : Bool) → 8 * codeLength ≤ i → Keeps body (putBit body i level)
 unfolding putBit
-put-keeps body i level h = set-keeps body (byteOf i) (withBit (getD body (byteOf i) 0) (placeOf i) level) (omega arith)
+put-keeps body i level h = set-keeps body (byteOf i) (withBit (getD body (byteOf i) 0) (bitPlace i) level) (omega arith)
 
 sets-keeps : (vs body : List ℕ) (i : ℕ) → codeLength ≤ i → Keeps body (sets body i vs)
 sets-keeps [] body i h = kept

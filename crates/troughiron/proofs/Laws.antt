@@ -3,7 +3,7 @@ use Prim.Native.Nat.{ℕ, zero, suc}
 use mathlib.Core.Path.{_≡_, refl, sym, ap, subst, _∙_}
 use mathlib.Core.List.{List}
 use Rattle.search.specs.declared.Found.{Found}
-use Rattle.search.specs.Found.{Outcome}
+use Rattle.search.specs.Found.{SearchOutcome}
 use Rattle.troughiron.specs.Host.{Finds, counted, SeesSearch}
 
 counted-now : (number count before : ℕ) → number ≡ 0 → counted number count before ≡ count
@@ -15,7 +15,7 @@ unfolding counted
 counted-not zero count before h = absurd (h refl)
 counted-not (suc number) count before h = refl
 
-module _ (left : Outcome) (passes resets slots : ℕ) (found : Found) (codes trace : List ℕ) (finds : Finds left found codes trace) where
+module _ (left : SearchOutcome) (passes resets slots : ℕ) (found : Found) (codes trace : List ℕ) (finds : Finds left found codes trace) where
   same : left .found .number ≡ found .number
   same = ap (λ (f : Found). f .number) (sym (finds .found-is))
 

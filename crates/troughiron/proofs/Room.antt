@@ -10,9 +10,9 @@ use borrow.Author.Tests.{le-ltb}
 use Rattle.image.specs.Image.{countOf}
 use Rattle.image.specs.Refusal.{imageRefusal}
 use Rattle.image.proofs.Accepted.{accepted-known}
-use Rattle.bus.specs.Refusal.{noRoom}
+use Rattle.bus.specs.Refusal.{noRunRoom}
 
-pub enough : (image trace : List ℕ) (answers : ℕ) → imageRefusal image ≡ 0 → noRoom image trace answers 64 ≡ ltb answers (length trace)
-unfolding noRoom
+pub enough : (image trace : List ℕ) (answers : ℕ) → imageRefusal image ≡ 0 → noRunRoom image trace answers 64 ≡ ltb answers (length trace)
+unfolding noRunRoom
 enough image trace answers e =
     ap (λ (b : Bool). ltb answers (length trace) || b) (le-ltb 64 (countOf image) (accepted-known image e .few)) ∙ or-false (ltb answers (length trace))

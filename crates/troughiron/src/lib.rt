@@ -14,7 +14,7 @@ const ACCEPTED: u32 = 0;
 // The run, with 64 line states of its own: as many as an image has devices.
 #[no_mangle]
 pub extern "C" fn troughiron_run(image: &mut [u8], trace: &[u8], answers: &mut [u8]) -> u32
-    ensures { λ r. ⌜ Sees (hostRun (now (trace .entry)) (now (image .entry)) (now (answers .entry))) r (now (image .exit)) (now (answers .exit)) ⌝ }
+    ensures { λ r. ⌜ Sees (hostRun (now (image .entry)) (now (trace .entry)) (now (answers .entry))) r (now (image .exit)) (now (answers .exit)) ⌝ }
 {
     let waiting = LineState::waiting();
     let mut lines = [waiting; 64];

@@ -9,10 +9,10 @@ use Rattle.rom.specs.Rom.{romRange, romCommand, afterCommand as afterRomCommand
 use Rattle.sram.specs.Body.{loadTarget, beginByte, writeBit, endData, copyLength, copyBytes, copyToMemory, acceptCopy}
 use Rattle.sram.specs.Sram.{sramRange, sramCommand, afterWriteAddress, addressWrite, afterWriteData, afterReadRegisters, afterReadScratchpad, patternSame, afterPattern, patternWrite, readFrom, afterReadAddress, afterReadMemory, sramSends, sramStep, sramWrite, sramReset}
 use Rattle.eprom.specs.Eprom.{fieldStart, fieldLength, fieldRead, readCode, writeCode, epromCommand, cut, commandCrc, readLatch, writeLatch, readAddressStep, writeAddressStep, stored, span, afterCrc, readCrcStep, afterByte, readByteStep, writeDataStep, writeCrcStep, nextAddress, storedStep, protected, programmed, epromRange, epromSends, epromStep, epromPulse, epromProgram}
-use Rattle.device.specs.Device.{sizeOf, memoryCommand, commandStep, sramIn, epromIn, memoryRange, stageRange, memorySends, stageSends, memoryStep, stageStep, memoryWrite, stageWrite, memoryReset, stageReset, memoryPulse, stagePulse, memoryProgram, stageProgram, taken, sendsOf, stepOf, writeOf, resetBody, pulseOf, programOf}
-use Rattle.bus.specs.Bus.{eventOf, pullsLow, someLow, presence, levelOf, nextState, nextBody, nextDevice, busStepAt, busStep, answerOf as levelByte, withAnswer, runTrace}
-use Rattle.bus.specs.Refusal.{someByte, badTrace, isEprom, badPulse, noRoom, runCauses, runRefusal}
-use Rattle.bus.specs.Run.{devicesFrom, waitingDevices, bodiesOf, leftBy, runAt, runOf}
+use Rattle.device.specs.Device.{sizeOf, memoryCommand, commandStep, sramIn, epromIn, memoryRange, stageRange, memorySends, stageSends, memoryStep, stageStep, memoryWrite, stageWrite, memoryReset, stageReset, memoryPulse, stagePulse, memoryProgram, stageProgram, taken, sendsOf, stateAfter, writeOf, resetBody, pulseOf, programOf}
+use Rattle.bus.specs.Bus.{eventOf, pullsLow, someLow, presence, levelOf, nextState, nextBody, nextDevice, busStepAt, busStep, answerByte as levelByte, withAnswer, runTrace}
+use Rattle.bus.specs.Refusal.{someByte, badTrace, isEprom, badPulse, noRunRoom, runCauses, runRefusal}
+use Rattle.bus.specs.Run.{devicesFrom, waitingDevices, bodiesOf, leftByRun, runAt, runOf}
 use Rattle.master.specs.Drive.{codeCompleted}
 use Rattle.master.specs.Master.{endNumber, said, slot, answerOf, fresh, withStage, stageInRange, inRange, afterReset, afterCommand, atDiscrepancy, sendDirection, openAfter, afterReads, completed, afterPass, passEnd, afterDirection, stageAfter, after}
 use Rattle.discovery.specs.Search.{stopped, preceded, exchange, searchFrom, searchOf}
@@ -24,7 +24,7 @@ found : Right oneOfEachFound
 unfolding bitOf bitAt atLevel withBit putBit shiftIn crcBit crcBits crcByte crcFrom registered kindOf bodySize packedAt someBelow
     equalBytes firstOf unknown entryMalformed malformed misplaced codeRefused miscoded repeated doubled imageCauses imageRefusal romRange
     romCommand afterRomCommand afterRomDirection afterSearch romStep searchSends romSends sizeOf memoryCommand commandStep sramIn epromIn
-    memoryRange stageRange memorySends stageSends memoryStep stageStep memoryWrite stageWrite memoryReset stageReset taken sendsOf stepOf writeOf
+    memoryRange stageRange memorySends stageSends memoryStep stageStep memoryWrite stageWrite memoryReset stageReset taken sendsOf stateAfter writeOf
     resetBody eventOf pullsLow someLow presence levelOf nextState nextBody nextDevice busStepAt busStep levelByte devicesFrom waitingDevices
     codeCompleted endNumber said slot answerOf fresh withStage stageInRange inRange afterReset afterCommand atDiscrepancy sendDirection
     openAfter afterReads completed afterPass passEnd afterDirection stageAfter after stopped preceded exchange searchFrom searchOf
@@ -36,13 +36,13 @@ unfolding bitOf bitAt atLevel withBit putBit shiftIn crcBit crcBits crcByte crcF
     equalBytes firstOf unknown entryMalformed malformed misplaced codeRefused miscoded repeated doubled imageCauses imageRefusal romRange
     romCommand afterRomCommand afterMatch romStep romSends sizeOf memoryCommand commandStep sramIn epromIn memoryRange stageRange
     memorySends stageSends memoryStep stageStep memoryWrite stageWrite memoryReset stageReset memoryPulse stagePulse memoryProgram
-    stageProgram taken sendsOf stepOf writeOf resetBody pulseOf programOf eventOf pullsLow someLow presence levelOf nextState nextBody
-    nextDevice busStepAt busStep levelByte withAnswer runTrace devicesFrom waitingDevices bodiesOf leftBy runAt runOf loadTarget beginByte
+    stageProgram taken sendsOf stateAfter writeOf resetBody pulseOf programOf eventOf pullsLow someLow presence levelOf nextState nextBody
+    nextDevice busStepAt busStep levelByte withAnswer runTrace devicesFrom waitingDevices bodiesOf leftByRun runAt runOf loadTarget beginByte
     writeBit endData copyLength copyBytes copyToMemory acceptCopy sramRange sramCommand afterWriteAddress addressWrite afterWriteData
     afterReadRegisters afterReadScratchpad patternSame afterPattern patternWrite readFrom afterReadAddress afterReadMemory sramSends
     sramStep sramWrite sramReset fieldStart fieldLength fieldRead readCode writeCode epromCommand cut commandCrc readLatch writeLatch
     readAddressStep writeAddressStep stored span afterCrc readCrcStep afterByte readByteStep writeDataStep writeCrcStep nextAddress
-    storedStep protected programmed epromRange epromSends epromStep epromPulse epromProgram someByte badTrace isEprom badPulse noRoom
+    storedStep protected programmed epromRange epromSends epromStep epromPulse epromProgram someByte badTrace isEprom badPulse noRunRoom
     runCauses runRefusal
 rows =
     refl and refl and refl and refl and refl and refl and refl and refl and refl and refl and refl and refl and refl and refl and refl and refl and refl and refl

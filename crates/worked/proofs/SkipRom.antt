@@ -19,9 +19,9 @@ use Rattle.device.specs.declared.LineState.{LineState}
 use Rattle.device.specs.Device.{stateOf, waitingState, resetState}
 use Rattle.bus.specs.declared.Event.the-variants.{Slot, Reset}
 use Rattle.bus.specs.declared.Event.{Event}
-use Rattle.bus.specs.Bus.{Device, BusStep, eventOf, presence, levelOf, nextDevice, busStepAt, busStep, Run, answerOf, withAnswer, runTrace}
+use Rattle.bus.specs.Bus.{Device, BusStep, eventOf, presence, levelOf, nextDevice, busStepAt, busStep, Run, answerByte, withAnswer, runTrace}
 use Rattle.bus.specs.Refusal.{someByte, badTrace, badPulse}
-use Rattle.bus.specs.Run.{waitingDevices, headerOf, bodiesOf, statesOf, outcome, leftBy, runAt, runOf}
+use Rattle.bus.specs.Run.{waitingDevices, headerOf, bodiesOf, statesOf, runOutcome, leftByRun, runAt, runOf}
 use Rattle.bus.proofs.Laws.{not-refused}
 use Rattle.bus.proofs.Shown.{Stand, waiting-stands, waiting-all, waiting-image, waiting-states}
 use Rattle.discovery.proofs.Devices.{inState, Sized, active, device, stands, all-active, reset-all, rom-unwritten, commanded, command-level, command-after}
@@ -90,7 +90,7 @@ module _ (ds : List Device) (fit : Sized ds) where
 
   -- the eight bits of CCh
   command-run : runTrace (bitsFrom 0) (all resetState ds) ≡ record { answers = bitsFrom 0; devices = all (stateOf atMemoryCommand) ds }
-  unfolding eventOf afterCommand romCommand shiftIn withAnswer answerOf runTrace
+  unfolding eventOf afterCommand romCommand shiftIn withAnswer answerByte runTrace
   command-run =
       slot-run 0 0x00 false 0 (bitsFrom 1) refl (lit< tt)
       ∙ ap (withAnswer false) (slot-run 1 0x00 false 0 (bitsFrom 2) refl (lit< tt)
@@ -114,33 +114,33 @@ module _ (ds : List Device) (fit : Sized ds) where
       ap (λ (es : List Device). withAnswer level (runTrace trace es)) after
 
   skip-run : runTrace skipRom (all waitingState ds)
-      ≡ record { answers = skipAnswers (answerOf (presence (all waitingState ds))); devices = all (stateOf atMemoryCommand) ds }
+      ≡ record { answers = skipAnswers (answerByte (presence (all waitingState ds))); devices = all (stateOf atMemoryCommand) ds }
   unfolding withAnswer
   skip-run = reset-run (bitsFrom 0) ∙ ap (withAnswer (presence (all waitingState ds))) command-run
 
 -- presence by the count
-presence-is : (image : List ℕ) (s : LineState) (ds : List Device) → length ds ≡ countOf image → answerOf (presence (all s ds)) ≡ presenceOf image
-unfolding presence answerOf
+presence-is : (image : List ℕ) (s : LineState) (ds : List Device) → length ds ≡ countOf image → answerByte (presence (all s ds)) ≡ presenceOf image
+unfolding presence answerByte
 presence-is image s [] e = rw (sym e)
 presence-is image s (d ∷ ds) e = rw (ne-eqb (countOf image) 0 (λ (z : countOf image ≡ 0). omega arith))
 
 pub skip-rom : (image answers : List ℕ) (lines : List LineState) → imageRefusal image ≡ 0 → length skipRom ≤ length answers → countOf image ≤ length lines
-    → runOf skipRom image answers lines
-    ≡ outcome 0 image (skipAnswers (presenceOf image) ++ drop (length skipRom) answers)
+    → runOf image skipRom answers lines
+    ≡ runOutcome 0 image (skipAnswers (presenceOf image) ++ drop (length skipRom) answers)
     (replicate (countOf image) (stateOf atMemoryCommand) ++ drop (countOf image) lines)
-unfolding runOf runAt leftBy badTrace badPulse someByte
+unfolding runOf runAt leftByRun badTrace badPulse someByte
 skip-rom image answers lines accepted room lent =
     let known = accepted-known image accepted in
     let ds = waitingDevices image in
     let n = countOf image in
     let count = waiting-all image known in
     let admitted = not-refused image skipRom (length answers) (length lines) (record { image-accepted = accepted; trace-good = refl; pulses-good = refl; answers-room = room; lines-room = lent }) in
-    let begun : runTrace skipRom ds ≡ record { answers = skipAnswers (answerOf (presence (all waitingState ds))); devices = all (stateOf atMemoryCommand) ds } =
+    let begun : runTrace skipRom ds ≡ record { answers = skipAnswers (answerByte (presence (all waitingState ds))); devices = all (stateOf atMemoryCommand) ds } =
     ap (runTrace skipRom) (all-same waitingState n ds (waiting-states image known)) ∙ skip-run ds (sized image 0 ds (waiting-stands image known)) in
-    ap (λ (m : ℕ). runAt m skipRom image answers lines) admitted
-    ∙ ap (λ (r : Run). leftBy r skipRom image answers lines) begun
-    ∙ ap (λ (p : ℕ). outcome 0 (headerOf image ++ bodiesOf (all (stateOf atMemoryCommand) ds)) (skipAnswers p ++ drop (length skipRom) answers) (statesOf (all (stateOf atMemoryCommand) ds) ++ drop n lines)) (presence-is image waitingState ds count)
-    ∙ ap (λ (l : List ℕ). outcome 0 l (skipAnswers (presenceOf image) ++ drop (length skipRom) answers) (statesOf (all (stateOf atMemoryCommand) ds) ++ drop n lines))
+    ap (λ (m : ℕ). runAt m image skipRom answers lines) admitted
+    ∙ ap (λ (r : Run). leftByRun r image skipRom answers lines) begun
+    ∙ ap (λ (p : ℕ). runOutcome 0 (headerOf image ++ bodiesOf (all (stateOf atMemoryCommand) ds)) (skipAnswers p ++ drop (length skipRom) answers) (statesOf (all (stateOf atMemoryCommand) ds) ++ drop n lines)) (presence-is image waitingState ds count)
+    ∙ ap (λ (l : List ℕ). runOutcome 0 l (skipAnswers (presenceOf image) ++ drop (length skipRom) answers) (statesOf (all (stateOf atMemoryCommand) ds) ++ drop n lines))
     (ap (λ (l : List ℕ). headerOf image ++ l) (all-bodies (stateOf atMemoryCommand) ds) ∙ waiting-image image known)
-    ∙ ap (λ (l : List LineState). outcome 0 image (skipAnswers (presenceOf image) ++ drop (length skipRom) answers) (l ++ drop n lines))
+    ∙ ap (λ (l : List LineState). runOutcome 0 image (skipAnswers (presenceOf image) ++ drop (length skipRom) answers) (l ++ drop n lines))
     (all-states (stateOf atMemoryCommand) ds ∙ ap (λ (k : ℕ). replicate k (stateOf atMemoryCommand)) count)

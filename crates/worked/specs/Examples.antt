@@ -10,7 +10,7 @@ use Rattle.image.specs.Image.{countOf}
 use Rattle.image.specs.Refusal.{imageRefusal}
 use Rattle.device.specs.declared.LineState.{LineState}
 use Rattle.device.specs.Device.{stateOf, waitingState}
-use Rattle.bus.specs.Run.{outcome, runOf}
+use Rattle.bus.specs.Run.{runOutcome, runOf}
 use Rattle.worked.specs.Row.{Every}
 use Rattle.worked.specs.Table.{skipRom, skipAnswers, table}
 
@@ -22,9 +22,9 @@ pub record Examples : Type 0 where
   pub rows : Every table
   -- 1, for every accepted image, of any number of devices of any kinds: with one device or more the first answer is 0, with none 1
   pub skip-rom : (image answers : List ℕ) (lines : List LineState) → imageRefusal image ≡ 0 → length skipRom ≤ length answers → countOf image ≤ length lines
-      → runOf skipRom image answers lines
-      ≡ outcome 0 image (skipAnswers (presenceOf image) ++ drop (length skipRom) answers)
+      → runOf image skipRom answers lines
+      ≡ runOutcome 0 image (skipAnswers (presenceOf image) ++ drop (length skipRom) answers)
       (replicate (countOf image) (stateOf atMemoryCommand) ++ drop (countOf image) lines)
   -- 2, for every accepted image
   pub empty-trace : (image answers : List ℕ) (lines : List LineState) → imageRefusal image ≡ 0 → countOf image ≤ length lines
-      → runOf [] image answers lines ≡ outcome 0 image answers (replicate (countOf image) waitingState ++ drop (countOf image) lines)
+      → runOf image [] answers lines ≡ runOutcome 0 image answers (replicate (countOf image) waitingState ++ drop (countOf image) lines)

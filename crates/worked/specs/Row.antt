@@ -9,7 +9,7 @@ use Rattle.image.specs.Image.{countOf}
 use Rattle.image.specs.Refusal.{imageRefusal}
 use Rattle.device.specs.declared.LineState.{LineState}
 use Rattle.device.specs.Device.{stateOf}
-use Rattle.bus.specs.Run.{outcome, runOf}
+use Rattle.bus.specs.Run.{runOutcome, runOf}
 use Rattle.master.specs.Master.{end, says}
 use Rattle.discovery.specs.Search.{searchOf}
 use Rattle.worked.specs.Session.{Step, reset, bitsOf, sentBy, seenBy}
@@ -36,7 +36,7 @@ lentLines image = replicate (countOf image) (stateOf atMemoryCommand)
 -- the run is not refused, and it leaves this image, these answers, and every line state in this stage
 abbrev pub Runs : List ℕ → List ℕ → List ℕ → List ℕ → Stage → Type 0
 Runs image sent seen after stage =
-    runOf sent image (lentAnswers sent) (lentLines image) ≡ outcome 0 after seen (replicate (countOf image) (stateOf stage))
+    runOf image sent (lentAnswers sent) (lentLines image) ≡ runOutcome 0 after seen (replicate (countOf image) (stateOf stage))
 
 -- ---- a search
 

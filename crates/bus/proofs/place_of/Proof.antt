@@ -7,7 +7,7 @@ use Prim.Native.Nat.{_+_, _*_, _≤_}
 use borrow.Author.Tests.{lt-ltb, le-ltb, le-leb, lt-leb}
 use mathlib.Core.Path.{_≡_, ap, _∙_}
 use native.Mathlib.Omega.{arith}
-use Rattle.bus.specs.Loops.{placeOf}
+use Rattle.bus.specs.Loops.{placeIn}
 use Rattle.image.specs.Image.{entryOf, familyAt, offsetAt, kindAt, countOf}
 use Rattle.image.proofs.Laws.{size-bound}
 use borrow.Author.Needs.{needs}
@@ -40,7 +40,7 @@ add-end c =
     omega (arith, size-bound (familyAt image i), c .before .before .before .before .before .shared-slice-known .given (2 + 4 * i + 2), c .before .before .before .before .before .shared-slice-known .given (2 + 4 * i + 3))
 
 returns : tie.Need-returns
-unfolding placeOf entryOf
+unfolding placeIn entryOf
 returns c =
     let s = c .before .before .before .before .before .before .before in
     let image = s .args .image .now in
@@ -51,7 +51,7 @@ returns c =
     rw (lt-ltb i (countOf image) (omega (arith, c .before .before .before .before .wide .ensures, c .before .before .before .before .before .count .ensures)), le-leb _ _ fits, size, c .before .before .entry-at .ensures)
 
 returns-2 : tie.Need-returns-2
-unfolding placeOf entryOf
+unfolding placeIn entryOf
 returns-2 c =
     let s = c .before .before .before .before .before .before .before in
     let image = s .args .image .now in
@@ -62,7 +62,7 @@ returns-2 c =
     simp (lt-leb _ _ past, and-false)
 
 returns-3 : tie.Need-returns-3
-unfolding placeOf entryOf
+unfolding placeIn entryOf
 returns-3 c =
     let s = c .before .before .before .before in
     let image = s .args .image .now in

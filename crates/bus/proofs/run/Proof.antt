@@ -50,7 +50,7 @@ use Rattle.device.specs.Device.{waitingState}
 use Rattle.device.proofs.LineState as T
 use Rattle.device.proofs.LineState.Laws as T′
 use Rattle.bus.specs.Refusal.{runRefusal}
-use Rattle.bus.specs.Run.{outcome, runOf}
+use Rattle.bus.specs.Run.{runOutcome, runOf}
 use Rattle.bus.specs.Loops.{servedOf, filled, RunState, runState}
 use Rattle.bus.proofs.Again.{LentAgain, SharedAgain, lends-kept, back-kept, shares-kept, shared-back}
 use Rattle.bus.proofs.Laws.{admitted, served-lines, filled-length, events-image-length, events-answers-length, events-lines-length}
@@ -134,8 +134,8 @@ module _ {M : Type 1} (𝓤 : URA M) (H : Heap 𝓤) (A : Atoms 𝓤) (W : Given
   has : e ≡ 0 → (n ≤ length ans) × (c ≤ length us)
   has zero′ = (admitted im tr (length ans) (length ys) zero′ .answers-room, subst (λ (j : ℕ). c ≤ j) (sym same) (served-lines im (length ys)))
 
-  ran : e ≡ 0 → outcome e (done′ .image) (done′ .answers) (done′ .lines) ≡ runOf tr im ans ys
-  ran zero′ = ap (λ (m : ℕ). outcome m (done′ .image) (done′ .answers) (done′ .lines)) zero′ ∙ run-shown tr im ans ys zero′
+  ran : e ≡ 0 → runOutcome e (done′ .image) (done′ .answers) (done′ .lines) ≡ runOf im tr ans ys
+  ran zero′ = ap (λ (m : ℕ). runOutcome m (done′ .image) (done′ .answers) (done′ .lines)) zero′ ∙ run-shown tr im ans ys zero′
 
   -- the slices, each under a name δ at a list l, and the trace; their machine values
   abbrev x : GName → List ℕ → RefT (List ℕ)
@@ -191,12 +191,12 @@ module _ {M : Type 1} (𝓤 : URA M) (H : Heap 𝓤) (A : Atoms 𝓤) (W : Given
   abbrev Had : List ℕ → List ℕ → List LineState → List (Item 𝓤) → List (Item 𝓤)
   Had im′ ans′ ls′ Γ = ‵ (Image im′) ∷ ‵ (flft κ q) ∷ ‵ Trace ∷ ‵ (flft κ₁ q₁) ∷ ‵ (Answers ans′) ∷ ‵ (flft κ₂ q₂) ∷ ‵ (Lines ls′) ∷ ‵ (flft κ₃ q₃) ∷ Γ
 
-  exits : (im′ ans′ : List ℕ) (ls′ : List LineState) → e < 2 ^ 32 → outcome e im′ ans′ ls′ ≡ runOf tr im ans ys → length im′ ≡ length im → length ans′ ≡ length ans → length ls′ ≡ length ys
+  exits : (im′ ans′ : List ℕ) (ls′ : List LineState) → e < 2 ^ 32 → runOutcome e im′ ans′ ls′ ≡ runOf im tr ans ys → length im′ ≡ length im → length ans′ ≡ length ans → length ls′ ≡ length ys
       → ent 𝓤 (⋆ 𝓤 H A (Had im′ ans′ ls′ [])) (Post (vint w32 e))
   exits im′ ans′ ls′ e-fits said len len₂ len₃ =
       qed W (Had im′ ans′ ls′ []) ∵
       suffices ! _ (ends-at 𝓤 H A run′.ended stayed (run′.clauses 𝓤 H A mem run) W (((κ, (κ₁, (κ₂, (κ₃, tt)))), (q, (q₁, (q₂, (q₃, tt)))), tt, a, vals), tt) (vint w32 e) e (im′, (tt, (ans′, (ls′, tt))))
-      (len, (tt, (len₂, (len₃, tt))))) $ says ! (run-leaves (runOf tr im ans ys) e im′ ans′ ls′ said) $
+      (len, (tt, (len₂, (len₃, tt))))) $ says ! (run-leaves (runOf im tr ans ys) e im′ ans′ ls′ said) $
       nothing ! $ move ! (8 ∷ 0 ∷ []) $ join ! $ move ! (6 ∷ 0 ∷ []) $ join ! $ move ! (4 ∷ 0 ∷ []) $ join ! $ move ! (2 ∷ 0 ∷ []) $ join ! $ frame ! $
       nothing ! $ move ! (4 ∷ 0 ∷ []) $ fjoin ! $ move ! (3 ∷ 0 ∷ []) $ fjoin ! $ move ! (2 ∷ 0 ∷ []) $ fjoin ! $ move ! (1 ∷ 0 ∷ []) $ fjoin ! $ frame ! $
       owned ! u32 (Is u32) (uint-makes 𝓤 H A W w32) e (vint w32 e ∷ []) (refl, e-fits) $ done !
@@ -312,7 +312,7 @@ module _ {M : Type 1} (𝓤 : URA M) (H : Heap 𝓤) (A : Atoms 𝓤) (W : Given
     c-fits : c < 2 ^ 64
     c-fits = omega (arith, served-lines im (length ys), room₃ .0)
 
-    leaves : (im′ ans′ : List ℕ) (ls′ : List LineState) → e < 2 ^ 32 → outcome e im′ ans′ ls′ ≡ runOf tr im ans ys → length im′ ≡ length im → length ans′ ≡ length ans → length ls′ ≡ length ys
+    leaves : (im′ ans′ : List ℕ) (ls′ : List LineState) → e < 2 ^ 32 → runOutcome e im′ ans′ ls′ ≡ runOf im tr ans ys → length im′ ≡ length im → length ans′ ≡ length ans → length ls′ ≡ length ys
         → Sq W (Had im′ ans′ ls′ Asked) (runs C Λ En mir.t-8 (atRet En Post))
     leaves im′ ans′ ls′ e-fits said len len₂ len₃ =
         assigns ! (of-opd ! (load ! (from ! (stop !)) (look ! 46 refl))) (from ! (stop !)) (init ! 56 refl (tt, record { fits = e-fits })) $

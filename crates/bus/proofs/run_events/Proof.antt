@@ -53,7 +53,7 @@ use denote.Triple.Table.{entered, cited}
 use denote.Triple.Walked.{says, needs, Stays, stay-slice, stay-none, stay-none-slice, walkOf, goes-slice, goes-none, goes-none-slice, Walks, ends-at, walked, walk-meets}
 use denote.Exit.{yes}
 use Rattle.device.specs.declared.LineState.{LineState}
-use Rattle.bus.specs.Bus.{answerOf}
+use Rattle.bus.specs.Bus.{answerByte}
 use Rattle.bus.specs.Loops.{levelOn, BusState, busState, turns, RunState, runState, eventAt, events}
 use Rattle.bus.proofs.Again.{LentAgain, SharedAgain, lends-kept, back-kept, shares-kept, shared-back}
 use Rattle.bus.proofs.Laws.{events-image-length, events-answers-length, events-lines-length}
@@ -409,8 +409,8 @@ module _ {M : Type 1} (𝓤 : URA M) (H : Heap 𝓤) (A : Atoms 𝓤) (W : Given
           move ! (6 ∷ []) $
           elem-out ! u8 (Is u8) (shows 𝓤 H A u8) (uint-vals w8) (uint-tells w8) fullShare (st k .answers) k 0 b₂ o₂ within (λ _.
           assigns ! (of-opd ! (load ! (from ! (stop !)) (look ! 15 refl))) (from ! (hop ! (look ! 20 refl) (stop !))) (store ! 0 refl (tt, record { fits = answer-fits′ (lv k) })) $
-          move ! (1 ∷ []) $ drop ! $ owned ! u8 (Is u8) (uint-makes 𝓤 H A W w8) (answerOf (lv k)) (vint w8 (answerOf (lv k)) ∷ []) (refl, answer-fits′ (lv k)) $ move ! (1 ∷ 0 ∷ []) $
-          elem-put ! u8 fullShare (st k .answers) k (answerOf (lv k)) (vint w8 (answerOf (lv k)) ∷ []) b₂ o₂ within $
+          move ! (1 ∷ []) $ drop ! $ owned ! u8 (Is u8) (uint-makes 𝓤 H A W w8) (answerByte (lv k)) (vint w8 (answerByte (lv k)) ∷ []) (refl, answer-fits′ (lv k)) $ move ! (1 ∷ 0 ∷ []) $
+          elem-put ! u8 fullShare (st k .answers) k (answerByte (lv k)) (vint w8 (answerByte (lv k)) ∷ []) b₂ o₂ within $
           forget ! 10 refl $ forget ! 11 refl $ forget ! 12 refl $ forget ! 13 refl $ forget ! 14 refl $ forget ! 15 refl $ forget ! 16 refl $ forget ! 17 refl $ forget ! 18 refl $
           keep ! (6 ∷ 0 ∷ 4 ∷ 5 ∷ 1 ∷ 2 ∷ 7 ∷ 8 ∷ 9 ∷ 10 ∷ 11 ∷ 12 ∷ 13 ∷ 14 ∷ 15 ∷ 16 ∷ 17 ∷ 18 ∷ 19 ∷ 20 ∷ 21 ∷ 22 ∷ 23 ∷ 24 ∷ 25 ∷ 26 ∷ 27 ∷ 28 ∷ 29 ∷ 30 ∷ 31 ∷ 32 ∷ 33 ∷ 34 ∷ 35 ∷ 36 ∷ 37 ∷ 38 ∷ 39 ∷ 40 ∷ 41 ∷ 42 ∷ 43 ∷ 44 ∷ 45 ∷ 46 ∷ 47 ∷ 48 ∷ 49 ∷ 50 ∷ 51 ∷ 52 ∷ 53 ∷ 54 ∷ 55 ∷ 56 ∷ 57 ∷ 58 ∷ []) $
           turned k X small (byte .1) next))))))))))

@@ -1,4 +1,4 @@
-use Rattle.master.specs.Drive.{codeRoom}
+use Rattle.master.specs.Drive.{feedCodeRoom}
 use borrow.Author.Needs.{needs}
 use Rattle.master.proofs.code_room.Statement.{statement}
 use Rattle.master.proofs.code_room.Tie as tie
@@ -13,11 +13,11 @@ mul-result-2 : tie.Need-mul-result-2
 mul-result-2 c = search needs
 
 returns : tie.Need-returns
-unfolding codeRoom
+unfolding feedCodeRoom
 returns c = search needs
 
 returns-2 : tie.Need-returns-2
-unfolding codeRoom
+unfolding feedCodeRoom
 returns-2 c = search needs
 
 pub code-room-spec : {M : Type 1} → statement M

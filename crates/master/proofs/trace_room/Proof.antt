@@ -1,4 +1,4 @@
-use Rattle.master.specs.Drive.{traceRoom}
+use Rattle.master.specs.Drive.{feedTraceRoom}
 use borrow.Author.Needs.{needs}
 use Rattle.master.proofs.trace_room.Statement.{statement}
 use Rattle.master.proofs.trace_room.Tie as tie
@@ -7,11 +7,11 @@ add-result : tie.Need-add-result
 add-result c = search needs
 
 returns : tie.Need-returns
-unfolding traceRoom
+unfolding feedTraceRoom
 returns c = search needs
 
 returns-2 : tie.Need-returns-2
-unfolding traceRoom
+unfolding feedTraceRoom
 returns-2 c = search needs
 
 pub trace-room-spec : {M : Type 1} → statement M

@@ -1,4 +1,4 @@
-use Rattle.search.specs.Refusal.{noRoom}
+use Rattle.search.specs.Refusal.{noSearchRoom}
 use borrow.Author.Tests.{le-ltb, lt-ltb}
 use mathlib.Core.Path.{_∙_}
 use borrow.Author.Needs.{needs}
@@ -15,14 +15,14 @@ mul-if1 : tie.Need-mul-if1
 mul-if1 c = search needs
 
 returns : tie.Need-returns
-unfolding noRoom
+unfolding noSearchRoom
 returns c = simp (lt-ltb _ _ (rw (c .before .wide .ensures ∙ c .before .before .count .ensures) at (c .if1 .taken)))
 
 trace-room-requires : tie.Need-trace-room-requires
 trace-room-requires c κs = search needs
 
 returns-2 : tie.Need-returns-2
-unfolding noRoom
+unfolding noSearchRoom
 returns-2 c =
     let n = c .before .before .before .before .count .ensures in
     simp (le-ltb _ _ (rw (c .before .before .before .wide .ensures ∙ n) at (c .before .before .if1 .left)), lt-ltb _ _ (rw (c .before .trace-room .ensures, n) at (c .if2 .taken)))
@@ -31,7 +31,7 @@ wide-requires-2 : tie.Need-wide-requires-2
 wide-requires-2 c κs = search needs
 
 returns-3 : tie.Need-returns-3
-unfolding noRoom
+unfolding noSearchRoom
 returns-3 c =
     let n = c .before .before .before .before .before .count .ensures in
     simp (le-ltb _ _ (rw (c .before .before .before .before .wide .ensures ∙ n) at (c .before .before .before .if1 .left)), le-ltb _ _ (rw (c .before .before .trace-room .ensures, n) at (c .before .if2 .left)), c .wide2 .ensures ∙ n)

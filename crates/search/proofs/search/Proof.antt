@@ -58,7 +58,7 @@ use Rattle.discovery.specs.Searched.{Searched}
 use Rattle.discovery.specs.Words.{Bytes}
 use Rattle.search.specs.declared.Found.{Found}
 use Rattle.search.specs.Refusal.{searchRefusal}
-use Rattle.search.specs.Found.{foundIn, outcome, searchedOf}
+use Rattle.search.specs.Found.{foundIn, searchOutcome, searchedOf}
 use Rattle.search.specs.Exchange.{Ready}
 use Rattle.search.proofs.Found as K
 use Rattle.search.proofs.Found.Laws as K′
@@ -185,7 +185,7 @@ module _ {M : Type 1} (𝓤 : URA M) (H : Heap 𝓤) (A : Atoms 𝓤) (W : Given
   abbrev Had : List ℕ → List ℕ → List LineState → List (Item 𝓤) → List (Item 𝓤)
   Had cs′ tr′ ls′ Γ = ‵ Image ∷ ‵ (flft κ q) ∷ ‵ (Codes cs′) ∷ ‵ (flft κ₁ q₁) ∷ ‵ (Trace tr′) ∷ ‵ (flft κ₂ q₂) ∷ ‵ (Lines ls′) ∷ ‵ (flft κ₃ q₃) ∷ Γ
 
-  exits : (c : ℕ) (w : Val) (cs′ tr′ : List ℕ) (ls′ : List LineState) → outcome (foundIn e (take c tr′)) cs′ tr′ ls′ ≡ searchedOf im codes trace ys → (e ≡ 0 → Searched im (searchOf im))
+  exits : (c : ℕ) (w : Val) (cs′ tr′ : List ℕ) (ls′ : List LineState) → searchOutcome (foundIn e (take c tr′)) cs′ tr′ ls′ ≡ searchedOf im codes trace ys → (e ≡ 0 → Searched im (searchOf im))
       → length cs′ ≡ length codes → length tr′ ≡ length trace → length ls′ ≡ length ys
       → ent 𝓤 (⋆ 𝓤 H A (Had cs′ tr′ ls′ (‵ (K.the-row .own (foundIn e (take c tr′)) (w ∷ [])) ∷ []))) (Post w)
   unfolding foundIn
@@ -281,7 +281,7 @@ module _ {M : Type 1} (𝓤 : URA M) (H : Heap 𝓤) (A : Atoms 𝓤) (W : Given
     Then = anyQ (afterSeq 𝓤 H (Wp 𝓤 H C Λ En mir.t-8 (atReturn 𝓤 H En Post)) (atReturn 𝓤 H En Post))
 
     -- the rest of the body: `tally`
-    leaves-at : (c : ℕ) (cs′ tr′ : List ℕ) (ls′ : List LineState) → e < 2 ^ 32 → c < 2 ^ 64 → outcome (foundIn e (take c tr′)) cs′ tr′ ls′ ≡ searchedOf im codes trace ys → (e ≡ 0 → Searched im (searchOf im))
+    leaves-at : (c : ℕ) (cs′ tr′ : List ℕ) (ls′ : List LineState) → e < 2 ^ 32 → c < 2 ^ 64 → searchOutcome (foundIn e (take c tr′)) cs′ tr′ ls′ ≡ searchedOf im codes trace ys → (e ≡ 0 → Searched im (searchOf im))
         → length cs′ ≡ length codes → length tr′ ≡ length trace → length ls′ ≡ length ys → c ≤ length tr′
         → Sq W (Had cs′ tr′ ls′ (Asked c)) (runs C Λ En mir.t-8 (atRet En Post))
     leaves-at c cs′ tr′ ls′ e-fits c-fits said ok len₁ len₂ len₃ few =

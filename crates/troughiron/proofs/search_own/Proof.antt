@@ -55,7 +55,7 @@ use Rattle.bus.proofs.Lines.{R, valsR, tellsR, copyR, typed}
 use Rattle.discovery.specs.Search.{searchOf}
 use Rattle.discovery.specs.Searched.{Searched}
 use Rattle.search.specs.declared.Found.{Found}
-use Rattle.search.specs.Found.{Leaves, searchedOf}
+use Rattle.search.specs.Found.{SearchLeaves, searchedOf}
 use Rattle.search.proofs.Found as K
 use Rattle.search.proofs.Found.Laws as K′
 use Rattle.troughiron.specs.Host.{Finds, hostSearch}
@@ -241,10 +241,10 @@ module _ {M : Type 1} (𝓤 : URA M) (H : Heap 𝓤) (A : Atoms 𝓤) (W : Given
         use1 W (later (some (λ (e : Found). ((‵ (flft κ q) ⊛ ‵ (flft κ₁ q₁) ⊛ ‵ (flft κ₂ q₂) ⊛ ‵ (flft (α ∷ []) fullShare) ⊛ ‵ ftrue) ⊛ ‵ (K.the-row .own e (w′ ∷ []))) ⊛ raw (ensured 𝓤 H A search′.ended (search′.clauses 𝓤 H A at-mem run) (κ, (κ₁, (κ₂, (α ∷ [], tt)))) (x, (x₁ codes, (x₂ trace, (x₃ l₅ γ₃, tt)))) tt e)))) (id⊢ 𝓤 _) $
         await ! tt $ pick ! (λ e. split ! $
         move ! (1 ∷ []) $
-        use1 W (some (λ (us : Unit {0} × (List ℕ × (List ℕ × (List LineState × Unit {0})))). ‵ (lasts search′.ended (κ, (κ₁, (κ₂, (α ∷ [], tt)))) (x, (x₁ codes, (x₂ trace, (x₃ l₅ γ₃, tt)))) us) ⊛ raw (fact 𝓤 (Leaves (searchedOf im codes trace xs) e (us .1 .0) (us .1 .1 .0) (us .1 .1 .1 .0) × (e .number ≡ 0 → Searched im (searchOf im)))))) (id⊢ 𝓤 _) $
+        use1 W (some (λ (us : Unit {0} × (List ℕ × (List ℕ × (List LineState × Unit {0})))). ‵ (lasts search′.ended (κ, (κ₁, (κ₂, (α ∷ [], tt)))) (x, (x₁ codes, (x₂ trace, (x₃ l₅ γ₃, tt)))) us) ⊛ raw (fact 𝓤 (SearchLeaves (searchedOf im codes trace xs) e (us .1 .0) (us .1 .1 .0) (us .1 .1 .1 .0) × (e .number ≡ 0 → Searched im (searchOf im)))))) (id⊢ 𝓤 _) $
         pick ! (λ us. split ! $
         move ! (1 ∷ []) $
-        heard ! (Leaves (searchedOf im codes trace xs) e (us .1 .0) (us .1 .1 .0) (us .1 .1 .1 .0) × (e .number ≡ 0 → Searched im (searchOf im))) (λ said.
+        heard ! (SearchLeaves (searchedOf im codes trace xs) e (us .1 .0) (us .1 .1 .0) (us .1 .1 .1 .0) × (e .number ≡ 0 → Searched im (searchOf im))) (λ said.
         fsplit ! $
         move ! (1 ∷ []) $
         fsplit ! $

@@ -52,7 +52,7 @@ use Rattle.device.specs.declared.LineState.{LineState}
 use Rattle.device.specs.Device.{waitingState}
 use Rattle.device.proofs.LineState as T
 use Rattle.device.proofs.LineState.Laws as T′
-use Rattle.bus.specs.Run.{Leaves, runOf}
+use Rattle.bus.specs.Run.{RunLeaves, runOf}
 use Rattle.bus.proofs.Lines.{R, valsR, tellsR, copyR, typed}
 use Rattle.troughiron.specs.Host.{Sees, hostRun}
 use Rattle.device.proofs.LineState.waiting as waiting
@@ -134,7 +134,7 @@ module _ {M : Type 1} (𝓤 : URA M) (H : Heap 𝓤) (A : Atoms 𝓤) (W : Given
   abbrev Trace : Fml
   Trace = ShrSlice (named 1) κ₁ u8 .own x₁ (s₁ ∷ [])
 
-  exits : (e : ℕ) (w : Val) (im′ ans′ : List ℕ) → Sees (hostRun tr im ans) e im′ ans′ → length im′ ≡ length im → length ans′ ≡ length ans
+  exits : (e : ℕ) (w : Val) (im′ ans′ : List ℕ) → Sees (hostRun im tr ans) e im′ ans′ → length im′ ≡ length im → length ans′ ≡ length ans
       → ent 𝓤 (⋆ 𝓤 H A (‵ (finally u8 γ im′) ∷ ‵ (flft κ q) ∷ ‵ Trace ∷ ‵ (flft κ₁ q₁) ∷ ‵ (finally u8 γ₂ ans′) ∷ ‵ (flft κ₂ q₂) ∷ ‵ (u32 .own e (w ∷ [])) ∷ [])) (Post w)
   exits e w im′ ans′ said len len₂ =
       qed W (‵ (finally u8 γ im′) ∷ ‵ (flft κ q) ∷ ‵ Trace ∷ ‵ (flft κ₁ q₁) ∷ ‵ (finally u8 γ₂ ans′) ∷ ‵ (flft κ₂ q₂) ∷ ‵ (u32 .own e (w ∷ [])) ∷ []) ∵
@@ -199,8 +199,8 @@ module _ {M : Type 1} (𝓤 : URA M) (H : Heap 𝓤) (A : Atoms 𝓤) (W : Given
         move ! (5 ∷ []) $ use1 W (‵ Trace ⊛ ‵ Trace) (shr-slice-copy 𝓤 H A W (named 1) κ₁ u8 .twice x₁ (s₁ ∷ [])) $ split ! $ move ! (9 ∷ 4 ∷ []) $ join ! $ move ! (7 ∷ 0 ∷ []) $ join ! $ move ! (6 ∷ 0 ∷ []) $ join ! $ move ! (6 ∷ 3 ∷ []) $ join ! $ move ! (2 ∷ 0 ∷ []) $ join ! $ move ! (4 ∷ 0 ∷ []) $ join ! $ move ! (1 ∷ 0 ∷ []) $ use2 W (raw (Run 𝓤 H A at-mem run .pre (to-run l₅ α γ₃))) (goes-run l₅ α γ₃) $
         calls-at ! fm (Run 𝓤 H A at-mem run) known-run (to-run l₅ α γ₃) (and-then ! (load ! (from ! (stop !)) (look ! 11 refl)) (and-then ! (load ! (from ! (stop !)) (look ! 20 refl)) (and-then ! (load ! (from ! (stop !)) (look ! 7 refl)) (and-then ! (load ! (from ! (stop !)) (look ! 3 refl)) (no-more !))))) (λ w′.
         use1 W (later (some (λ (e : ℕ). ((‵ (flft κ q) ⊛ ‵ (flft κ₁ q₁) ⊛ ‵ (flft κ₂ q₂) ⊛ ‵ (flft (α ∷ []) fullShare) ⊛ ‵ ftrue) ⊛ ‵ (u32 .own e (w′ ∷ []))) ⊛ raw (ensured 𝓤 H A bus-run.ended (bus-run.clauses 𝓤 H A at-mem run) (κ, (κ₁, (κ₂, (α ∷ [], tt)))) (x im, (x₁, (x₂ ans, (x₃ l₅ γ₃, tt)))) tt e)))) (id⊢ 𝓤 _) $ await ! tt $ pick ! (λ e.
-        split ! $ move ! (1 ∷ []) $ use1 W (some (λ (us : List ℕ × (Unit {0} × (List ℕ × (List LineState × Unit {0})))). ‵ (lasts bus-run.ended (κ, (κ₁, (κ₂, (α ∷ [], tt)))) (x im, (x₁, (x₂ ans, (x₃ l₅ γ₃, tt)))) us) ⊛ raw (fact 𝓤 (Leaves (runOf tr im ans xs) e (us .0) (us .1 .1 .0) (us .1 .1 .1 .0))))) (id⊢ 𝓤 _) $ pick ! (λ us.
-        split ! $ move ! (1 ∷ []) $ heard ! (Leaves (runOf tr im ans xs) e (us .0) (us .1 .1 .0) (us .1 .1 .1 .0)) (λ said.
+        split ! $ move ! (1 ∷ []) $ use1 W (some (λ (us : List ℕ × (Unit {0} × (List ℕ × (List LineState × Unit {0})))). ‵ (lasts bus-run.ended (κ, (κ₁, (κ₂, (α ∷ [], tt)))) (x im, (x₁, (x₂ ans, (x₃ l₅ γ₃, tt)))) us) ⊛ raw (fact 𝓤 (RunLeaves (runOf im tr ans xs) e (us .0) (us .1 .1 .0) (us .1 .1 .1 .0))))) (id⊢ 𝓤 _) $ pick ! (λ us.
+        split ! $ move ! (1 ∷ []) $ heard ! (RunLeaves (runOf im tr ans xs) e (us .0) (us .1 .1 .0) (us .1 .1 .1 .0)) (λ said.
         fsplit ! $ fsplit ! $ move ! (1 ∷ []) $ feqL ! (λ len. move ! (1 ∷ []) $ fsplit ! $ move ! (1 ∷ []) $ fsplit ! $ fsplit ! $ move ! (1 ∷ []) $ feqL ! (λ len₂. move ! (1 ∷ []) $ fsplit ! $ fsplit ! $ move ! (1 ∷ []) $ feqL ! (λ len₃.
         move ! (5 ∷ []) $ split ! $ move ! (1 ∷ []) $ peeks ! u32 (Is u32) (shows 𝓤 H A u32) e (w′ ∷ []) (λ is′. land ! (from ! (stop !)) (init ! 30 refl (uint-lawful 𝓤 H A W w32 .typed e _ is′ .0)) $
         -- the lifetime is ended, and the elements come back and are the array again
