@@ -1,2 +1,4 @@
 pub mod Laws
 pub mod Pulses
+pub mod SlotsAhead
+pub mod SlotsThrough

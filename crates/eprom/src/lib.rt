@@ -7,7 +7,11 @@ use line::EpromStage;
 use line::Field;
 use line::MemoryStage;
 use line::Stage;
+use line::Through;
 ghost use mathlib.Core.Path.{_≡_};
+ghost use Prim.Native.Nat.{_-_};
+ghost use Rattle.bits.specs.Slots.{onesWord};
+ghost use Rattle.eprom.specs.Through.{storedBits, fourBits, crcAhead, epromAhead, throughReadAddress, throughReadCrc, throughReadByte, throughWriteAddress, throughWriteData, throughWriteCrc, throughStored, epromThrough};
 ghost use Rattle.eprom.specs.Eprom.{inEprom, readStart, writeStart, fieldStart, fieldLength, fieldRead, readCode, writeCode, epromCommand, cut, commandCrc, readLatch, writeLatch, readAddressStep, writeAddressStep, stored, span, afterCrc, readCrcStep, afterByte, readByteStep, writeDataStep, writeCrcStep, nextAddress, storedStep, protected, programmed, epromRange, epromSends, epromStep, epromPulse, epromProgram};
 ghost use Rattle.eprom.specs.View.{fieldsFit, bytesToRead, placeToRead};
 
@@ -498,6 +502,235 @@ pub fn step(e: EpromStage, body: &[u8], level: bool) -> Stage
             address,
             bits,
         } => stored_step(field, address, bits),
+    }
+}
+
+// ---- several slots at once, within the unit under way
+
+// The bits of a field from a bit of a byte on.
+fn stored_bits(field: Field, address: u8, bits: u8, body: &[u8]) -> u32
+    ensures { λ r. ⌜ r ≡ storedBits field address bits (now (body .entry)) ⌝ }
+{
+    bits::word_at(
+        body,
+        8 * (field_start(field) + address as usize) + bits as usize,
+    )
+}
+
+// How many bits there are from a byte on, to the end of its four. Every page and field ends at a multiple of four, so no CRC comes in
+// between.
+fn four_bits(address: u8) -> u8
+    ensures { λ r. ⌜ r ≡ fourBits address ⌝ }
+{
+    32 - 8 * (address % 4)
+}
+
+// Nothing is pulled low to the end of a unit, of which so many bits are through.
+fn ones_ahead(through: u8, whole: u8) -> u64
+    ensures { λ r. ⌜ r ≡ onesWord (whole - through) ⌝ }
+{
+    bits::slots_word(0xFFFFFFFF, bits::left(through, whole))
+}
+
+// A CRC leaves the register from its low end.
+fn crc_ahead(bits: u8, register: u8) -> u64
+    ensures { λ r. ⌜ r ≡ crcAhead bits register ⌝ }
+{
+    bits::slots_word(register as u32, bits::left(bits, 8))
+}
+
+// What is sent in the next slots, whatever their levels are.
+pub fn ahead(e: EpromStage, body: &[u8]) -> u64
+    ensures { λ r. ⌜ r ≡ epromAhead e (now (body .entry)) ⌝ }
+{
+    match e {
+        EpromStage::ReadAddress { bits, .. } => ones_ahead(bits, 16),
+        EpromStage::ReadCrc { bits, register, .. } => crc_ahead(bits, register),
+        EpromStage::ReadByte {
+            read,
+            address,
+            bits,
+            ..
+        } => bits::slots_word(
+            stored_bits(field_read(read), address, bits, body),
+            bits::left(bits, four_bits(address)),
+        ),
+        EpromStage::WriteAddress { bits, .. } => ones_ahead(bits, 16),
+        EpromStage::WriteData { bits, .. } => ones_ahead(bits, 8),
+        EpromStage::WriteCrc { bits, register, .. } => crc_ahead(bits, register),
+        EpromStage::PulseDue { .. } => ones_ahead(0, 32),
+        EpromStage::Stored {
+            field,
+            address,
+            bits,
+        } => bits::slots_word(stored_bits(field, address, bits, body), bits::left(bits, 8)),
+    }
+}
+
+fn through_read_address(read: EpromRead, bits: u8, value: u16, levels: u32, n: u8) -> Through
+    ensures { λ r. ⌜ r ≡ throughReadAddress read bits value levels n ⌝ }
+{
+    if bits::within(bits, n, 16) {
+        Through::To(in_eprom(EpromStage::ReadAddress {
+            read,
+            bits: bits + n,
+            value: bits::shifts_in_wide(value, levels, n),
+        }))
+    } else {
+        Through::EachSlot
+    }
+}
+
+fn through_read_crc(read: EpromRead, address: u8, bits: u8, register: u8, n: u8) -> Through
+    ensures { λ r. ⌜ r ≡ throughReadCrc read address bits register n ⌝ }
+{
+    if bits::within(bits, n, 8) {
+        Through::To(in_eprom(EpromStage::ReadCrc {
+            read,
+            address,
+            bits: bits + n,
+            register: register >> n,
+        }))
+    } else {
+        Through::EachSlot
+    }
+}
+
+fn through_read_byte(
+    read: EpromRead,
+    address: u8,
+    bits: u8,
+    register: u8,
+    body: &[u8],
+    n: u8,
+) -> Through
+    ensures { λ r. ⌜ r ≡ throughReadByte read address bits register (now (body .entry)) n ⌝ }
+{
+    if bits::within(bits, n, four_bits(address)) {
+        let sent = stored_bits(field_read(read), address, bits, body);
+        let through = bits + n;
+        Through::To(in_eprom(EpromStage::ReadByte {
+            read,
+            address: address + through / 8,
+            bits: through % 8,
+            register: bits::crc_shifts(register, sent, n),
+        }))
+    } else {
+        Through::EachSlot
+    }
+}
+
+fn through_write_address(field: Field, bits: u8, value: u16, levels: u32, n: u8) -> Through
+    ensures { λ r. ⌜ r ≡ throughWriteAddress field bits value levels n ⌝ }
+{
+    if bits::within(bits, n, 16) {
+        Through::To(in_eprom(EpromStage::WriteAddress {
+            field,
+            bits: bits + n,
+            value: bits::shifts_in_wide(value, levels, n),
+        }))
+    } else {
+        Through::EachSlot
+    }
+}
+
+fn through_write_data(
+    field: Field,
+    address: u8,
+    bits: u8,
+    value: u8,
+    register: u8,
+    levels: u32,
+    n: u8,
+) -> Through
+    ensures { λ r. ⌜ r ≡ throughWriteData field address bits value register levels n ⌝ }
+{
+    if bits::within(bits, n, 8) {
+        Through::To(in_eprom(EpromStage::WriteData {
+            field,
+            address,
+            bits: bits + n,
+            value: bits::shifts_in(value, levels, n),
+            register: bits::crc_shifts(register, levels, n),
+        }))
+    } else {
+        Through::EachSlot
+    }
+}
+
+fn through_write_crc(field: Field, address: u8, byte: u8, bits: u8, register: u8, n: u8) -> Through
+    ensures { λ r. ⌜ r ≡ throughWriteCrc field address byte bits register n ⌝ }
+{
+    if bits::within(bits, n, 8) {
+        Through::To(in_eprom(EpromStage::WriteCrc {
+            field,
+            address,
+            byte,
+            bits: bits + n,
+            register: register >> n,
+        }))
+    } else {
+        Through::EachSlot
+    }
+}
+
+fn through_stored(field: Field, address: u8, bits: u8, n: u8) -> Through
+    ensures { λ r. ⌜ r ≡ throughStored field address bits n ⌝ }
+{
+    if bits::within(bits, n, 8) {
+        Through::To(in_eprom(EpromStage::Stored {
+            field,
+            address,
+            bits: bits + n,
+        }))
+    } else {
+        Through::EachSlot
+    }
+}
+
+// The stage after n slots at levels, the lowest bit first.
+pub fn through(e: EpromStage, body: &[u8], levels: u32, n: u8) -> Through
+    ensures { λ r. ⌜ r ≡ epromThrough e (now (body .entry)) levels n ⌝ }
+{
+    match e {
+        EpromStage::ReadAddress { read, bits, value } => {
+            through_read_address(read, bits, value, levels, n)
+        }
+        EpromStage::ReadCrc {
+            read,
+            address,
+            bits,
+            register,
+        } => through_read_crc(read, address, bits, register, n),
+        EpromStage::ReadByte {
+            read,
+            address,
+            bits,
+            register,
+        } => through_read_byte(read, address, bits, register, body, n),
+        EpromStage::WriteAddress { field, bits, value } => {
+            through_write_address(field, bits, value, levels, n)
+        }
+        EpromStage::WriteData {
+            field,
+            address,
+            bits,
+            value,
+            register,
+        } => through_write_data(field, address, bits, value, register, levels, n),
+        EpromStage::WriteCrc {
+            field,
+            address,
+            byte,
+            bits,
+            register,
+        } => through_write_crc(field, address, byte, bits, register, n),
+        EpromStage::PulseDue { .. } => Through::EachSlot,
+        EpromStage::Stored {
+            field,
+            address,
+            bits,
+        } => through_stored(field, address, bits, n),
     }
 }
 
