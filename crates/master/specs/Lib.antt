@@ -1,2 +1,3 @@
 pub mod Master
 pub mod Drive
+pub mod Bit

@@ -4,9 +4,11 @@
 // which event was sent last, and `at` which bit of the command or of the code it belongs to. The level that a step is given is the level
 // of that event.
 ghost use mathlib.Core.Path.{_≡_};
-ghost use Prim.Native.Nat.{_*_, _<_};
+ghost use Prim.Native.Nat.{_-_, _*_, _<_};
 ghost use lib.Seq.{sets};
-ghost use Rattle.master.specs.Master.{codeBytes, mostPasses, fresh, withStage, slot, said, answerOf, says, inRange, afterReset, afterCommand, atDiscrepancy, sendDirection, afterReads, completed, afterPass, passEnd, afterDirection, after, nextOf, stepOf};
+ghost use Rattle.bits.specs.Bit.{putBit};
+ghost use Rattle.master.specs.Master.{codeBits, codeBytes, mostPasses, fresh, withStage, slot, said, answerOf, says, inRange, afterReset, afterCommand, atDiscrepancy, sendDirection, afterReads, completed, afterPass, passEnd, afterDirection, after, nextOf, stepOf};
+ghost use Rattle.master.specs.Bit.{readsBit, directionStep, bitSteps};
 ghost use Rattle.master.specs.Drive.{started, eventsFrom, codeCompleted, codesFrom, feedTraceRoom, feedCodeRoom, refused, fed, driveResult, outcomeNumber, driveNumber, traceAfter, codesAfter};
 
 // Why a master ended.
@@ -128,6 +130,18 @@ fn at_discrepancy(last: Discrepancy, previous: [u8; 8], at: u8) -> bool
     }
 }
 
+// A code with the direction of a bit. One that is there is not stored again: a copy of the code would wait for the store.
+fn with_direction(code: [u8; 8], at: u8, bit: bool) -> [u8; 8]
+    ensures { λ r. ⌜ r ≡ putBit code at bit ⌝ }
+{
+    if bits::bit_at(&code, at as usize) == bit {
+        return code;
+    }
+    let mut changed = code;
+    bits::put_bit(&mut changed, at as usize, bit);
+    changed
+}
+
 // Whether the search goes on after so many passes.
 fn after_pass(opened: Discrepancy, passes: u8) -> Stage
     ensures { λ r. ⌜ r ≡ afterPass opened passes ⌝ }
@@ -224,8 +238,8 @@ impl Master {
     fn send_direction(self, at: u8, bit: bool, opened: Discrepancy) -> Master
         ensures { λ r. ⌜ r ≡ sendDirection self at bit opened ⌝ }
     {
-        let mut code = self.code;
-        bits::put_bit(&mut code, at as usize, bit);
+        let held = self.code;
+        let code = with_direction(held, at, bit);
         let previous = self.previous;
         let last = self.last;
         Master {
@@ -331,6 +345,92 @@ impl Master {
         let next = self.after(level != 0);
         let stage = next.stage;
         let answer = answer_of(stage);
+        Step { answer, next }
+    }
+
+    // Whether the first read slot of a bit was sent last, and the bit is not the last of a code.
+    pub fn reads_bit(self) -> bool
+        ensures { λ r. ⌜ r ≡ readsBit self ⌝ }
+    {
+        let stage = self.stage;
+        let passes = self.passes;
+        match stage {
+            Stage::Fresh => false,
+            Stage::Reset => false,
+            Stage::Command { at: _ } => false,
+            Stage::FirstRead { at } => at < CODE_BITS - 1 && passes < MOST_PASSES,
+            Stage::SecondRead { at: _, first: _ } => false,
+            Stage::Direction { at: _, bit: _ } => false,
+            Stage::Ended(_) => false,
+        }
+    }
+
+    // Sends the direction of a bit that is not the last, and then the first read slot of the next.
+    fn send_bit(self, at: u8, bit: bool, opened: Discrepancy) -> Step
+        requires { ⌜ (at < codeBits - 1) × (self .passes < mostPasses) ⌝ }
+        ensures { λ r. ⌜ r ≡ directionStep (sendDirection self at bit opened) ⌝ }
+    {
+        let held = self.code;
+        let code = with_direction(held, at, bit);
+        let previous = self.previous;
+        let last = self.last;
+        let next = Master {
+            stage: Stage::FirstRead { at: at + 1 },
+            passes: self.passes,
+            code,
+            opened,
+            previous,
+            last,
+        };
+        Step {
+            answer: Answer::Event(slot(bit)),
+            next,
+        }
+    }
+
+    // The levels of both read slots of a bit that is not the last.
+    fn bit_read(self, at: u8, first: bool, second: bool) -> Step
+        requires { ⌜ (at < codeBits - 1) × (self .passes < mostPasses) ⌝ }
+        ensures { λ r. ⌜ r ≡ directionStep (afterReads self at first second) ⌝ }
+    {
+        let opened = self.opened;
+        if first {
+            if second {
+                let next = self.with_stage(Stage::Ended(End::NoDevice));
+                return Step {
+                    answer: Answer::End(End::NoDevice),
+                    next,
+                };
+            }
+            return self.send_bit(at, true, opened);
+        }
+        if second {
+            return self.send_bit(at, false, opened);
+        }
+        let last = self.last;
+        let previous = self.previous;
+        if at_discrepancy(last, previous, at) {
+            return self.send_bit(at, true, opened);
+        }
+        self.send_bit(at, false, Discrepancy::At(at))
+    }
+
+    // The steps of the two read slots of a bit and of its direction at once. The answer is the direction, or the end; the level of a
+    // direction is not read.
+    pub fn bit(self, first: bool, second: bool) -> Step
+        ensures { λ r. ⌜ r ≡ bitSteps self first second ⌝ }
+    {
+        let stage = self.stage;
+        let passes = self.passes;
+        if let Stage::FirstRead { at } = stage {
+            if at < CODE_BITS - 1 && passes < MOST_PASSES {
+                return self.bit_read(at, first, second);
+            }
+        }
+        let two = self.after(first).after(second);
+        let stage = two.stage;
+        let answer = answer_of(stage);
+        let next = two.after(false);
         Step { answer, next }
     }
 }
