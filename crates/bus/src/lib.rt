@@ -7,17 +7,20 @@ use kind::Kind;
 use line::RomStage;
 use line::Stage;
 ghost use mathlib.Core.Path.{_≡_};
-ghost use Prim.Native.Nat.{_≤_};
+ghost use Prim.Native.Nat.{_+_, _<_, _≤_};
 ghost use mathlib.Core.Bool.{not, _&&_};
 ghost use lib.ListN.{length};
 ghost use lib.Dec.{eqb, ltb};
+ghost use Rattle.bits.specs.Bit.{bitOf};
+ghost use Rattle.bits.specs.Slots.{levelsIn, countIn};
 ghost use Rattle.image.specs.Image.{countOf, kindAt};
 ghost use Rattle.image.specs.Refusal.{someBelow};
-ghost use Rattle.bus.specs.Bus.{deviceOf, eventOf, nextState, nextBody};
+ghost use Rattle.bus.specs.Bus.{deviceOf, eventOf};
 ghost use Rattle.bus.specs.Refusal.{someByte, badTrace, isEprom, badPulse, noRunRoom, runRefusal};
 ghost use Rattle.bus.specs.Run.{RunLeaves, runOf};
-ghost use Rattle.bus.specs.Loops.{isWaiting, waitsIn, idleIn, placeIn, deviceAt, deviceIn, masterLevel, deviceLevel, turnState, turnImage, servedOf, levelOn, statesAfter, busState, turns, filled, runState, events};
+ghost use Rattle.bus.specs.Loops.{isWaiting, waitsIn, idleIn, placeIn, deviceAt, deviceIn, masterLevel, servedOf, aheadWith, aheads, stateIn, statesGiven, afterStretch, turnedState, turnedImage, slotAt, slotsFrom, stretchCount, slotLevels, stretchLevels, stretchFrom, putLevels, busState, turns, filled, runState, events};
 ghost use Rattle.device.specs.Device.{waitingState};
+ghost use Rattle.device.specs.Through.{knownAt};
 
 // An event on the line: a slot in which the master sends a bit, a reset, or a program pulse.
 pub enum Event {
@@ -38,6 +41,12 @@ const ACCEPTED: u32 = 0;
 
 // The longest trace that is run.
 const MOST_EVENTS: usize = 32768;
+
+// The slots of a stretch at most.
+const MOST_SLOTS: u8 = 32;
+
+// Slots that nobody pulls low, as a word of slots, more than a stretch has.
+const ONES: u64 = 0xFFFFFFFFFFFFFFFF;
 
 // ---- one device
 
@@ -125,77 +134,32 @@ fn master_level(byte: u8) -> bool
     }
 }
 
-// The level at which a device leaves the line: in a slot what it sends, at a reset the 0 of its presence.
-fn device_level(byte: u8, state: LineState, kind: Kind, body: &[u8]) -> bool
-    ensures { λ r. ⌜ r ≡ deviceLevel (eventOf byte) (deviceOf kind (now (body .entry)) state) ⌝ }
+// A stretch of a trace is some slots, with their levels, or one reset or pulse, as a word of slots (see `bits::slots_word`).
+fn stretch_length(stretch: u64) -> usize
+    ensures { λ r. ⌜ r ≡ countIn stretch ⌝ }
+{
+    bits::count_in(stretch) as usize
+}
+
+// What a stretch of a trace makes of a device: its next line state, and its body.
+fn device_next(byte: u8, stretch: u64, state: LineState, kind: Kind, body: &mut [u8]) -> LineState
+    ensures { λ r. ⌜ deviceOf kind (now (body .exit)) r ≡ afterStretch (eventOf byte) (levelsIn stretch) (countIn stretch) (deviceOf kind (now (body .entry)) state) ⌝ }
 {
     match event_of(byte) {
-        Event::Slot(_) => state.sends(kind, body),
-        Event::Reset => false,
-        Event::Pulse => true,
-    }
-}
-
-// The level of the line with device i on it as well. Where it is low already the device is not asked.
-fn level_with(image: &[u8], i: usize, state: LineState, byte: u8, level: bool) -> bool
-    ensures { λ r. ⌜ r ≡ (level && deviceLevel (eventOf byte) (deviceIn (now (image .entry)) i state)) ⌝ }
-{
-    if !level {
-        return false;
-    }
-    if is_idle(byte, state) {
-        return true;
-    }
-    let place = place_of(image, i);
-    let kind = place.kind;
-    let start = place.start;
-    let end = place.end;
-    device_level(byte, state, kind, &image[start..end])
-}
-
-// What an event at a level makes of a device's line state. The body is only read.
-fn device_state(byte: u8, level: bool, state: LineState, kind: Kind, body: &[u8]) -> LineState
-    ensures { λ r. ⌜ r ≡ nextState (eventOf byte) level (deviceOf kind (now (body .entry)) state) ⌝ }
-{
-    match event_of(byte) {
-        Event::Slot(_) => state.step(kind, body, level),
-        Event::Reset => LineState::at_reset(),
-        Event::Pulse => state.pulsed(kind, body),
-    }
-}
-
-// The same of device i, in the image.
-fn state_after(image: &[u8], i: usize, state: LineState, byte: u8, level: bool) -> LineState
-    ensures { λ r. ⌜ r ≡ turnState (now (image .entry)) i state byte level ⌝ }
-{
-    if is_idle(byte, state) {
-        return state;
-    }
-    let place = place_of(image, i);
-    let kind = place.kind;
-    let start = place.start;
-    let end = place.end;
-    device_state(byte, level, state, kind, &image[start..end])
-}
-
-// What an event at a level makes of a device: its next line state, and its body. In a slot the device is given the level of the line.
-fn device_next(byte: u8, level: bool, state: LineState, kind: Kind, body: &mut [u8]) -> LineState
-    ensures { λ r. ⌜ (r ≡ nextState (eventOf byte) level (deviceOf kind (now (body .entry)) state)) × (now (body .exit) ≡ nextBody (eventOf byte) level (deviceOf kind (now (body .entry)) state)) ⌝ }
-{
-    match event_of(byte) {
-        Event::Slot(_) => {
-            let next = state.step(kind, body, level);
-            state.write(kind, body, level);
-            next
-        }
+        Event::Slot(_) => state.slots(
+            kind,
+            body,
+            bits::levels_in(stretch),
+            bits::count_in(stretch),
+        ),
         Event::Reset => state.reset(kind, body),
         Event::Pulse => state.pulse(kind, body),
     }
 }
 
 // The same of device i, in the image.
-fn turn(image: &mut [u8], i: usize, state: LineState, byte: u8, level: bool) -> LineState
-    ensures { λ r. ⌜ (r ≡ turnState (now (image .entry)) i state byte level) × (now (image .exit) ≡ turnImage (now (image .entry)) i state byte level) ⌝ }
+fn turn(image: &mut [u8], i: usize, state: LineState, byte: u8, stretch: u64) -> LineState
+    ensures { λ r. ⌜ (r ≡ turnedState (now (image .entry)) i state byte stretch) × (now (image .exit) ≡ turnedImage (now (image .entry)) i state byte stretch) ⌝ }
 {
     if is_idle(byte, state) {
         return state;
@@ -204,7 +168,51 @@ fn turn(image: &mut [u8], i: usize, state: LineState, byte: u8, level: bool) -> 
     let kind = place.kind;
     let start = place.start;
     let end = place.end;
-    device_next(byte, level, state, kind, &mut image[start..end])
+    device_next(byte, stretch, state, kind, &mut image[start..end])
+}
+
+// What the line is left at in the next slots, with device i on it as well.
+fn ahead_with(image: &[u8], i: usize, state: LineState, ahead: u64) -> u64
+    ensures { λ r. ⌜ r ≡ aheadWith ahead (now (image .entry)) i state ⌝ }
+{
+    if waits(state) {
+        return ahead;
+    }
+    let place = place_of(image, i);
+    let kind = place.kind;
+    let start = place.start;
+    let end = place.end;
+    bits::both_slots(ahead, state.ahead(kind, &image[start..end]))
+}
+
+// What a stretch makes of a device's line state, where the body is only read.
+fn device_given(byte: u8, stretch: u64, state: LineState, kind: Kind, body: &[u8]) -> LineState
+    ensures { λ r. ⌜ r ≡ stateIn byte stretch (deviceOf kind (now (body .entry)) state) ⌝ }
+{
+    match event_of(byte) {
+        Event::Slot(_) => state.steps(
+            kind,
+            body,
+            bits::levels_in(stretch),
+            bits::count_in(stretch),
+        ),
+        Event::Reset => LineState::at_reset(),
+        Event::Pulse => state.pulsed(kind, body),
+    }
+}
+
+// The same of device i, in the image.
+fn state_given(image: &[u8], i: usize, state: LineState, byte: u8, stretch: u64) -> LineState
+    ensures { λ r. ⌜ r ≡ stateIn byte stretch (deviceIn (now (image .entry)) i state) ⌝ }
+{
+    if is_idle(byte, state) {
+        return state;
+    }
+    let place = place_of(image, i);
+    let kind = place.kind;
+    let start = place.start;
+    let end = place.end;
+    device_given(byte, stretch, state, kind, &image[start..end])
 }
 
 // How many devices have a line state: n, or the line states where there are fewer.
@@ -216,6 +224,119 @@ fn served(image: &[u8], lines: usize) -> usize
         return lines;
     }
     n
+}
+
+// ---- a stretch of a trace
+
+// What is sent in slot j of those to come is known; of the next slot it always is.
+fn is_known(ahead: u64, j: u8) -> bool
+    ensures { λ r. ⌜ r ≡ knownAt ahead j ⌝ }
+{
+    if j == 0 {
+        return true;
+    }
+    j < bits::count_in(ahead)
+}
+
+// Event k of a trace is a slot.
+fn is_slot(trace: &[u8], k: usize) -> bool
+    ensures { λ r. ⌜ r ≡ slotAt (now (trace .entry)) k ⌝ }
+{
+    if k < trace.len() {
+        return trace[k] < 2;
+    }
+    false
+}
+
+// How many events of a trace from k on are slots in which all that is sent is known, at most 32.
+fn slots_from(trace: &[u8], k: usize, ahead: u64) -> u8
+    ensures { λ r. ⌜ r ≡ slotsFrom (now (trace .entry)) k ahead 0 32 ⌝ }
+{
+    let mut j: u8 = 0;
+    let mut at: usize = k;
+    while j < MOST_SLOTS {
+        if !is_slot(trace, at) {
+            return j;
+        }
+        if !is_known(ahead, j) {
+            return j;
+        }
+        at = at + 1;
+        j = j + 1;
+    }
+    j
+}
+
+// How many events of a trace from k on are one stretch.
+fn stretch_count(trace: &[u8], k: usize, ahead: u64) -> u8
+    ensures { λ r. ⌜ r ≡ stretchCount (now (trace .entry)) k ahead ⌝ }
+{
+    if is_slot(trace, k) {
+        return slots_from(trace, k, ahead);
+    }
+    1
+}
+
+// The level of slot j, for which the master sends a byte of the trace.
+fn slot_level(byte: u8, ahead: u64, j: u8) -> bool
+    ensures { λ r. ⌜ r ≡ (masterLevel (eventOf byte) && bitOf (levelsIn ahead) j) ⌝ }
+{
+    if master_level(byte) {
+        return bits::level_in(bits::levels_in(ahead), j);
+    }
+    false
+}
+
+// The levels of slots, as bits: 0 where the master sends 0, or a device.
+fn slot_levels(trace: &[u8], k: usize, ahead: u64, count: u8) -> u32
+    requires { ⌜ (count ≤ 32) × (k + count ≤ length (now trace)) ⌝ }
+    ensures { λ r. ⌜ r ≡ slotLevels (now (trace .entry)) k ahead 0 count ⌝ }
+{
+    let mut levels: u32 = 0;
+    let mut j: u8 = count;
+    while 0 < j {
+        j = j - 1;
+        let level = slot_level(trace[k + j as usize], ahead, j);
+        levels = 2 * levels + level as u32;
+    }
+    levels
+}
+
+// The levels of a stretch, as bits. At a reset it is 0 if there is a device, at a pulse 1.
+fn stretch_levels(trace: &[u8], k: usize, ahead: u64, n: usize, count: u8) -> u32
+    requires { ⌜ (k < length (now trace)) × (count ≤ 32) × (k + count ≤ length (now trace)) ⌝ }
+    ensures { λ r. ⌜ r ≡ stretchLevels (now (trace .entry)) k ahead n count ⌝ }
+{
+    match event_of(trace[k]) {
+        Event::Slot(_) => slot_levels(trace, k, ahead, count),
+        Event::Reset => if n == 0 { 1 } else { 0 },
+        Event::Pulse => 1,
+    }
+}
+
+// The stretch of a trace from k on.
+fn stretch_from(trace: &[u8], k: usize, ahead: u64, n: usize) -> u64
+    requires { ⌜ k < length (now trace) ⌝ }
+    ensures { λ r. ⌜ r ≡ stretchFrom (now (trace .entry)) k ahead n ⌝ }
+{
+    let count = stretch_count(trace, k, ahead);
+    let levels = stretch_levels(trace, k, ahead, n, count);
+    bits::slots_word(levels, count)
+}
+
+// Answers the levels of a stretch, each in a byte.
+fn put_levels(answers: &mut [u8], k: usize, stretch: u64)
+    requires { ⌜ k + countIn stretch ≤ length (now answers) ⌝ }
+    ensures { λ _. ⌜ now (answers .exit) ≡ putLevels (now (answers .entry)) k (levelsIn stretch) (countIn stretch) ⌝ }
+{
+    let levels = bits::levels_in(stretch);
+    let count = bits::count_in(stretch);
+    let mut j: u8 = 0;
+    while j < count {
+        let level = bits::level_in(levels, j);
+        answers[k + j as usize] = level as u8;
+        j = j + 1;
+    }
 }
 
 // ---- why a run is refused
@@ -327,44 +448,52 @@ fn refusal(image: &[u8], trace: &[u8], answers: usize, lines: usize) -> u32
 
 // ---- all devices
 
-// The level of an event, of any image and any line states. It reads only.
-pub fn level(image: &[u8], lines: &[LineState], byte: u8) -> bool
-    ensures { λ r. ⌜ r ≡ levelOn (now (image .entry)) (now (lines .entry)) byte ⌝ }
+// What the first n devices leave the line at in the next slots (see `LineState::ahead`): with no device all are ones, and known.
+fn ahead_all(image: &[u8], lines: &[LineState], n: usize) -> u64
+    requires { ⌜ n ≤ length (now lines) ⌝ }
+    ensures { λ r. ⌜ r ≡ aheads (now (image .entry)) (now (lines .entry)) n ⌝ }
 {
-    let n = served(image, lines.len());
-    let mut level = master_level(byte);
+    let mut ahead: u64 = ONES;
     let mut i: usize = 0;
     while i < n {
         let state = lines[i];
-        level = level_with(image, i, state, byte, level);
+        ahead = ahead_with(image, i, state, ahead);
         i = i + 1;
     }
-    level
+    ahead
 }
 
-// The line states after an event at a level, of any image and any line states. The image is only read.
-pub fn step_all(image: &[u8], lines: &mut [LineState], byte: u8, level: bool)
-    ensures { λ _. ⌜ now (lines .exit) ≡ statesAfter (now (image .entry)) (now (lines .entry)) byte level ⌝ }
+// What all devices leave the line at in the next slots, of any image and any line states. It reads only.
+pub fn ahead(image: &[u8], lines: &[LineState]) -> u64
+    ensures { λ r. ⌜ r ≡ aheads (now (image .entry)) (now (lines .entry)) (servedOf (now (image .entry)) (length (now (lines .entry)))) ⌝ }
+{
+    let n = served(image, lines.len());
+    ahead_all(image, lines, n)
+}
+
+// The line states after a stretch, of any image and any line states. The image is only read.
+pub fn steps_all(image: &[u8], lines: &mut [LineState], byte: u8, stretch: u64)
+    ensures { λ _. ⌜ now (lines .exit) ≡ statesGiven (now (image .entry)) (now (lines .entry)) byte stretch ⌝ }
 {
     let n = served(image, lines.len());
     let mut i: usize = 0;
     while i < n {
         let state = lines[i];
-        let next = state_after(image, i, state, byte, level);
+        let next = state_given(image, i, state, byte, stretch);
         lines[i] = next;
         i = i + 1;
     }
 }
 
-// Each of the first n devices, one after the other, at the level of the event. No device's part depends on another's turn.
-fn turn_all(image: &mut [u8], lines: &mut [LineState], n: usize, byte: u8, level: bool)
+// Each of the first n devices, one after the other, given a stretch of the trace. No device's part depends on another's turn.
+fn turn_all(image: &mut [u8], lines: &mut [LineState], n: usize, byte: u8, stretch: u64)
     requires { ⌜ n ≤ length (now lines) ⌝ }
-    ensures { λ _. ⌜ busState (now (image .exit)) (now (lines .exit)) ≡ turns byte level n (busState (now (image .entry)) (now (lines .entry))) ⌝ }
+    ensures { λ _. ⌜ busState (now (image .exit)) (now (lines .exit)) ≡ turns byte stretch n (busState (now (image .entry)) (now (lines .entry))) ⌝ }
 {
     let mut i: usize = 0;
     while i < n {
         let state = lines[i];
-        let next = turn(image, i, state, byte, level);
+        let next = turn(image, i, state, byte, stretch);
         lines[i] = next;
         i = i + 1;
     }
@@ -391,18 +520,19 @@ pub fn wait_all(image: &[u8], lines: &mut [LineState])
     fill(lines, n, waiting);
 }
 
-// Every event of a trace on n devices: its level is answered, then each device is given it.
+// Every event of a trace on n devices, a stretch at a time: its levels are answered, then each device is given them.
 fn run_events(image: &mut [u8], trace: &[u8], answers: &mut [u8], lines: &mut [LineState], n: usize)
     requires { ⌜ (length (now trace) ≤ length (now answers)) × (n ≤ length (now lines)) ⌝ }
     ensures { λ _. ⌜ runState (now (image .exit)) (now (answers .exit)) (now (lines .exit)) ≡ events (now (trace .entry)) n (length (now (trace .entry))) (runState (now (image .entry)) (now (answers .entry)) (now (lines .entry))) ⌝ }
 {
     let mut k: usize = 0;
     while k < trace.len() {
-        let byte = trace[k];
-        let line = level(image, lines, byte);
-        answers[k] = line as u8;
-        turn_all(image, lines, n, byte, line);
-        k = k + 1;
+        let byte = bits::byte_at(trace, k);
+        let ahead = ahead_all(image, lines, n);
+        let stretch = stretch_from(trace, k, ahead, n);
+        put_levels(answers, k, stretch);
+        turn_all(image, lines, n, byte, stretch);
+        k = k + stretch_length(stretch);
     }
 }
 

@@ -1,16 +1,31 @@
 -- Not from document 01: what the functions of `src/` below `search` do and ask. A reader of what a search does can skip it.
-use Prim.Native.Nat.{ℕ, _*_, _≤_}
+use Prim.Native.Nat.{ℕ, zero, suc, _+_, _*_, _≤_}
 use mathlib.Core.Path.{_≡_}
-use mathlib.Core.Bool.{Bool, true, false}
+use mathlib.Core.Bool.{Bool, true, false, not, cond, _&&_}
 use mathlib.Core.List.{List}
-use lib.ListN.{length, take, replicate}
+use lib.ListN.{length, take, replicate, set}
+use lib.Seq.{sets}
+use lib.Bits.{bitAnd}
+use lib.Dec.{eqb, ltb, leb}
+use Rattle.bits.specs.Bit.{bitOf}
+use Rattle.bits.specs.Slots.{slotsWord, levelsIn, countIn}
 use Rattle.image.specs.Image.{countOf}
 use Rattle.image.specs.Refusal.{imageRefusal}
 use Rattle.device.specs.declared.LineState.{LineState}
 use Rattle.device.specs.Device.{waitingState}
 use Rattle.master.specs.declared.Answer.{Answer}
-use Rattle.master.specs.Master.{codeBytes, reset}
+use Rattle.master.specs.declared.Stage.{Stage}
+use Rattle.master.specs.declared.Stage.the-variants.{Fresh, Reset, Command, FirstRead, SecondRead, Direction, Ended}
+use Rattle.master.specs.declared.Master.{Master}
+use Rattle.master.specs.declared.Step.{Step}
+use Rattle.master.specs.Master.{commandBits, codeBytes, mostPasses, reset, readSlot, withStage, nextOf, stepOf}
+use Rattle.master.specs.Drive.{codeCompleted}
+use Rattle.master.specs.Bit.{readsBit, bitSteps}
+use Rattle.bus.specs.declared.Event.{Event}
+use Rattle.bus.specs.declared.Event.the-variants as Event
+use Rattle.bus.specs.Bus.{eventOf, answerByte}
 use Rattle.discovery.specs.Words.{Bytes}
+use Rattle.search.specs.declared.Told.{Told}
 use Rattle.search.specs.Refusal.{traceRoom}
 
 -- a step's answer is an event or the end
@@ -31,3 +46,88 @@ pub record Ready (image codes trace : List ℕ) (lines : List LineState) : Type 
   pub trace-room : traceRoom (countOf image) ≤ length trace
   pub line-room : countOf image ≤ length lines
   pub waiting : take (countOf image) lines ≡ replicate (countOf image) waitingState
+
+-- ---- a stretch of exchanges: the master's side of it. `ahead` is what the devices leave the line at in the next slots
+
+-- one event: its level
+unfoldable pub oneLevel : Event → ℕ → ℕ → Bool
+oneLevel (Event.Slot sent) n ahead = sent && bitOf (levelsIn ahead) 0
+oneLevel Event.Reset n ahead = eqb n 0
+oneLevel Event.Pulse n ahead = true
+
+unfoldable pub toldOne : Step → Bool → Told
+toldOne step level = record { step = stepOf (step .next) (answerByte level); stretch = slotsWord (answerByte level) 1 }
+
+unfoldable pub oneCodes : List ℕ → Master → Bool → List ℕ
+oneCodes codes m level = sets codes (codeBytes * m .passes) (codeCompleted (m .passes) (nextOf m (answerByte level)))
+
+-- a bit: its three slots are known, and a device is left in it
+unfoldable pub bitKnown : ℕ → Bool
+bitKnown ahead = cond (ltb (countIn ahead) 3) false (cond (bitOf (levelsIn ahead) 0) (not (bitOf (levelsIn ahead) 1)) true)
+
+-- the slots in which the master sends 1: the read slots, and a direction of 1
+unfoldable pub bitMask : ℕ → ℕ
+bitMask direction = cond (eqb direction 0) 3 7
+
+unfoldable pub bitTrace : List ℕ → ℕ → ℕ → List ℕ
+bitTrace trace k direction = set (set (set trace k readSlot) (k + 1) readSlot) (k + 2) direction
+
+-- the three steps were these; the next event is a read slot
+unfoldable pub bitTold : Step → ℕ → Told
+bitTold taken ahead = record {
+  step = record { answer = Answer.Event readSlot; next = taken .next };
+  stretch = slotsWord (bitAnd (levelsIn ahead) (bitMask (eventIn (taken .answer)))) 3;
+}
+
+-- the search command: its first slot was sent last
+unfoldable pub beginsCommand : Stage → ℕ → Bool
+beginsCommand Fresh passes = false
+beginsCommand Reset passes = false
+beginsCommand (Command at) passes = eqb at 0 && ltb passes mostPasses
+beginsCommand (FirstRead at) passes = false
+beginsCommand (SecondRead at first) passes = false
+beginsCommand (Direction at bit) passes = false
+beginsCommand (Ended e) passes = false
+
+-- its first j slots
+unfoldable pub commandTrace : List ℕ → ℕ → ℕ → List ℕ
+commandTrace trace k zero = trace
+commandTrace trace k (suc j) = set (commandTrace trace k j) (k + j) (answerByte (bitOf 0xF0 j))
+
+unfoldable pub commandMaster : Master → Master
+commandMaster m = withStage m (FirstRead 0)
+
+unfoldable pub commandTold : Master → ℕ → Told
+commandTold m ahead = record {
+  step = record { answer = Answer.Event readSlot; next = commandMaster m };
+  stretch = slotsWord (bitAnd (levelsIn ahead) 0xF0) commandBits;
+}
+
+-- which of the three
+unfoldable pub toldBit : Master → ℕ → Bool
+toldBit m ahead = readsBit m && bitKnown ahead
+
+unfoldable pub toldCommand : Master → ℕ → Bool
+toldCommand m ahead = beginsCommand (m .stage) (m .passes) && leb commandBits (countIn ahead)
+
+abbrev pub bitTaken : Master → ℕ → Step
+bitTaken m ahead = bitSteps m (bitOf (levelsIn ahead) 0) (bitOf (levelsIn ahead) 1)
+
+abbrev pub levelTold : ℕ → Step → ℕ → Bool
+levelTold n step ahead = oneLevel (eventOf (eventIn (step .answer))) n ahead
+
+unfoldable pub toldOf : ℕ → Step → ℕ → Told
+toldOf n step ahead =
+    cond (toldBit (step .next) ahead) (bitTold (bitTaken (step .next) ahead) ahead)
+    (cond (toldCommand (step .next) ahead) (commandTold (step .next) ahead) (toldOne step (levelTold n step ahead)))
+
+-- the trace and the codes then; a code is completed only by one event alone
+unfoldable pub toldTrace : List ℕ → ℕ → Step → ℕ → List ℕ
+toldTrace trace k step ahead =
+    cond (toldBit (step .next) ahead) (bitTrace trace k (eventIn (bitTaken (step .next) ahead .answer)))
+    (cond (toldCommand (step .next) ahead) (commandTrace trace k commandBits) (set trace k (eventIn (step .answer))))
+
+unfoldable pub toldCodes : ℕ → List ℕ → Step → ℕ → List ℕ
+toldCodes n codes step ahead =
+    cond (toldBit (step .next) ahead) codes
+    (cond (toldCommand (step .next) ahead) codes (oneCodes codes (step .next) (levelTold n step ahead)))

@@ -1,10 +1,12 @@
 // The search: the searching master, stepped with the levels of the bus and nothing else.
 //
-// The image is only read. The loop over the exchanges sends what the master answers to the devices, and gives the level that they answer to
-// the master's next step; what is written and stored between is a function by value over the buffers.
+// The image is only read. The loop over the exchanges goes by stretches: where it is known what the devices leave the line at in the next
+// slots, the master takes the levels of all slots of a bit, or of the search command, at once, and then each device does. What is written and
+// stored between is a function by value over the buffers.
 use device::LineState;
 use master::Answer;
 use master::Master;
+use master::Stage;
 use master::Step;
 ghost use mathlib.Core.Path.{_≡_};
 ghost use Prim.Native.Nat.{_≤_, _<_, _+_, _*_};
@@ -14,15 +16,18 @@ ghost use lib.ListN.{length, take, drop, set, getD};
 ghost use lib.Seq.{sets};
 ghost use Rattle.image.specs.Image.{countOf};
 ghost use Rattle.master.specs.Master.{codeBytes, fresh, nextOf, stepOf};
+ghost use Rattle.master.specs.Bit.{bitSteps};
 ghost use Rattle.master.specs.Drive.{codeCompleted, over};
-ghost use Rattle.bus.specs.Bus.{answerByte};
+ghost use Rattle.bits.specs.Bit.{bitOf};
+ghost use Rattle.bits.specs.Slots.{levelsIn, countIn};
+ghost use Rattle.bus.specs.Bus.{eventOf, answerByte};
 ghost use Rattle.bus.specs.Run.{statesOf};
 ghost use Rattle.discovery.specs.Search.{searchOf};
 ghost use Rattle.discovery.specs.Searched.{Searched};
 ghost use Rattle.discovery.specs.Words.{Bytes, isReset, slotNext, resetsIn, slotsIn, passesIn};
 ghost use Rattle.search.specs.Refusal.{traceRoom, noSearchRoom, searchRefusal};
 ghost use Rattle.search.specs.Found.{foundIn, SearchLeaves, searchedOf};
-ghost use Rattle.search.specs.Exchange.{hasEvent, eventIn, Ready};
+ghost use Rattle.search.specs.Exchange.{hasEvent, eventIn, Ready, oneLevel, toldOne, oneCodes, bitMask, bitKnown, bitTold, bitTrace, beginsCommand, commandTrace, commandMaster, commandTold, toldBit, toldCommand, toldOf, toldTrace, toldCodes};
 
 // What a search gives back beside its buffers.
 pub struct Found {
@@ -44,6 +49,21 @@ const RESET: u8 = 2;
 const PASS_EVENTS: usize = 201;
 
 const CODE_BYTES: usize = 8;
+
+// The passes that a search may take.
+const MOST_PASSES: u8 = 64;
+
+// The read slot, and the slots of a bit.
+const READ_SLOT: u8 = 1;
+
+const BIT_SLOTS: u8 = 3;
+
+// The search command, its bits, and its levels as the master leaves them.
+const SEARCH_ROM: u8 = 0xF0;
+
+const COMMAND_BITS: u8 = 8;
+
+const COMMAND_LEVELS: u32 = 0xF0;
 
 // ---- why a search is refused
 
@@ -152,6 +172,241 @@ fn next_step(
     step
 }
 
+// ---- a stretch of exchanges
+
+// The master's side of a stretch: its step after it, and the levels of the stretch as a word of slots (see `bits::slots_word`).
+struct Told {
+    step: Step,
+    stretch: u64,
+}
+
+fn stretch_in(told: Told) -> u64
+    ensures { λ r. ⌜ r ≡ told .stretch ⌝ }
+{
+    told.stretch
+}
+
+fn step_in(told: Told) -> Step
+    ensures { λ r. ⌜ r ≡ told .step ⌝ }
+{
+    told.step
+}
+
+// How many events a stretch has.
+fn stretch_length(stretch: u64) -> usize
+    ensures { λ r. ⌜ r ≡ countIn stretch ⌝ }
+{
+    bits::count_in(stretch) as usize
+}
+
+// The level of slot j of those to come, as the devices leave it.
+fn level_at(ahead: u64, j: u8) -> bool
+    ensures { λ r. ⌜ r ≡ bitOf (levelsIn ahead) j ⌝ }
+{
+    bits::level_in(bits::levels_in(ahead), j)
+}
+
+// The level of one event, by what the devices leave the line at in the next slot; at a reset 0 if there is a device, at a pulse 1.
+fn one_level(image: &[u8], event: u8, ahead: u64) -> bool
+    ensures { λ r. ⌜ r ≡ oneLevel (eventOf event) (countOf (now (image .entry))) ahead ⌝ }
+{
+    if event == 0 {
+        return false;
+    }
+    if event == 1 {
+        return level_at(ahead, 0);
+    }
+    if event == RESET {
+        return image::count(image) == 0;
+    }
+    true
+}
+
+// A stretch of one event.
+fn tell_one(
+    image: &[u8],
+    codes: &mut [u8],
+    trace: &mut [u8],
+    sent: usize,
+    step: Step,
+    ahead: u64,
+) -> Told
+    ensures { λ r. ⌜ (r ≡ toldOne step (oneLevel (eventOf (eventIn (step .answer))) (countOf (now (image .entry))) ahead))
+        × (now (codes .exit) ≡ oneCodes (now (codes .entry)) (step .next) (oneLevel (eventOf (eventIn (step .answer))) (countOf (now (image .entry))) ahead))
+        × (now (trace .exit) ≡ set (now (trace .entry)) sent (eventIn (step .answer))) ⌝ }
+{
+    let event = event_in(step);
+    let level = one_level(image, event, ahead);
+    let next = next_step(codes, trace, sent, step, event, level);
+    let stretch = bits::slots_word(answer_of(level) as u32, 1);
+    Told {
+        step: next,
+        stretch,
+    }
+}
+
+// Whether the levels of the three slots of a bit are known, and a device is left in it: not both read slots are at 1.
+fn knows_bit(ahead: u64) -> bool
+    ensures { λ r. ⌜ r ≡ bitKnown ahead ⌝ }
+{
+    if bits::count_in(ahead) < BIT_SLOTS {
+        return false;
+    }
+    if level_at(ahead, 0) {
+        return !level_at(ahead, 1);
+    }
+    true
+}
+
+// The slots of a bit in which the master sends 1: both read slots, and the direction where it is 1.
+fn bit_mask(direction: u8) -> u32
+    ensures { λ r. ⌜ r ≡ bitMask direction ⌝ }
+{
+    if direction == 0 { 3 } else { 7 }
+}
+
+// Writes the events of a bit: two read slots and a direction.
+fn write_bit(trace: &mut [u8], sent: usize, direction: u8)
+    requires { ⌜ sent < 65536 ⌝ }
+    ensures { λ _. ⌜ now (trace .exit) ≡ bitTrace (now (trace .entry)) sent direction ⌝ }
+{
+    bits::put_byte(trace, sent, READ_SLOT);
+    bits::put_byte(trace, sent + 1, READ_SLOT);
+    bits::put_byte(trace, sent + 2, direction);
+}
+
+// A stretch of the three slots of a bit that is not the last of a code.
+fn tell_bit(trace: &mut [u8], sent: usize, master: Master, ahead: u64) -> Told
+    requires { ⌜ sent < 65536 ⌝ }
+    ensures { λ r. ⌜ (r ≡ bitTold (bitSteps master (bitOf (levelsIn ahead) 0) (bitOf (levelsIn ahead) 1)) ahead)
+        × (now (trace .exit) ≡ bitTrace (now (trace .entry)) sent (eventIn (bitSteps master (bitOf (levelsIn ahead) 0) (bitOf (levelsIn ahead) 1) .answer))) ⌝ }
+{
+    let first = level_at(ahead, 0);
+    let second = level_at(ahead, 1);
+    let taken = master.bit(first, second);
+    let direction = event_in(taken);
+    write_bit(trace, sent, direction);
+    let next = taken.next;
+    let levels = bits::levels_in(ahead) & bit_mask(direction);
+    let stretch = bits::slots_word(levels, BIT_SLOTS);
+    let step = Step {
+        answer: Answer::Event(READ_SLOT),
+        next,
+    };
+    Told { step, stretch }
+}
+
+// Whether the first slot of the search command was sent last.
+fn begins_command(master: Master) -> bool
+    ensures { λ r. ⌜ r ≡ beginsCommand (master .stage) (master .passes) ⌝ }
+{
+    let stage = master.stage;
+    let passes = master.passes;
+    match stage {
+        Stage::Fresh => false,
+        Stage::Reset => false,
+        Stage::Command { at } => at == 0 && passes < MOST_PASSES,
+        Stage::FirstRead { at: _ } => false,
+        Stage::SecondRead { at: _, first: _ } => false,
+        Stage::Direction { at: _, bit: _ } => false,
+        Stage::Ended(_) => false,
+    }
+}
+
+// Writes the eight slots of the search command.
+fn write_command(trace: &mut [u8], sent: usize)
+    requires { ⌜ sent < 65536 ⌝ }
+    ensures { λ _. ⌜ now (trace .exit) ≡ commandTrace (now (trace .entry)) sent 8 ⌝ }
+{
+    let mut j: u8 = 0;
+    while j < COMMAND_BITS {
+        bits::put_byte(
+            trace,
+            sent + wide(j),
+            answer_of(bits::bit_of(SEARCH_ROM, j)),
+        );
+        j = j + 1;
+    }
+}
+
+// The same master, which has sent the first read slot.
+fn after_command(master: Master) -> Master
+    ensures { λ r. ⌜ r ≡ commandMaster master ⌝ }
+{
+    let code = master.code;
+    let opened = master.opened;
+    let previous = master.previous;
+    let last = master.last;
+    Master {
+        stage: Stage::FirstRead { at: 0 },
+        passes: master.passes,
+        code,
+        opened,
+        previous,
+        last,
+    }
+}
+
+// A stretch of the eight slots of the search command.
+fn tell_command(trace: &mut [u8], sent: usize, master: Master, ahead: u64) -> Told
+    requires { ⌜ sent < 65536 ⌝ }
+    ensures { λ r. ⌜ (r ≡ commandTold master ahead) × (now (trace .exit) ≡ commandTrace (now (trace .entry)) sent 8) ⌝ }
+{
+    write_command(trace, sent);
+    let next = after_command(master);
+    let levels = bits::levels_in(ahead) & COMMAND_LEVELS;
+    let stretch = bits::slots_word(levels, COMMAND_BITS);
+    let step = Step {
+        answer: Answer::Event(READ_SLOT),
+        next,
+    };
+    Told { step, stretch }
+}
+
+// Whether a bit is told at once, or the search command.
+fn tells_bit(master: Master, ahead: u64) -> bool
+    ensures { λ r. ⌜ r ≡ toldBit master ahead ⌝ }
+{
+    if master.reads_bit() {
+        return knows_bit(ahead);
+    }
+    false
+}
+
+fn tells_command(master: Master, ahead: u64) -> bool
+    ensures { λ r. ⌜ r ≡ toldCommand master ahead ⌝ }
+{
+    if begins_command(master) {
+        return COMMAND_BITS <= bits::count_in(ahead);
+    }
+    false
+}
+
+// The master's side of a stretch of exchanges: writes its events, gives their levels to the master, and stores the code that it completed, if
+// it completed one.
+fn tell(
+    image: &[u8],
+    codes: &mut [u8],
+    trace: &mut [u8],
+    sent: usize,
+    step: Step,
+    ahead: u64,
+) -> Told
+    requires { ⌜ sent < 65536 ⌝ }
+    ensures { λ r. ⌜ (r ≡ toldOf (countOf (now (image .entry))) step ahead)
+        × (now (codes .exit) ≡ toldCodes (countOf (now (image .entry))) (now (codes .entry)) step ahead)
+        × (now (trace .exit) ≡ toldTrace (now (trace .entry)) sent step ahead) ⌝ }
+{
+    let master = step.next;
+    if tells_bit(master, ahead) {
+        return tell_bit(trace, sent, master, ahead);
+    }
+    if tells_command(master, ahead) {
+        return tell_command(trace, sent, master, ahead);
+    }
+    tell_one(image, codes, trace, sent, step, ahead)
+}
+
 // ---- counts
 
 fn one_if(yes: bool) -> u64
@@ -228,8 +483,8 @@ fn tally(number: u32, trace: &[u8], sent: usize) -> Found
 
 // ---- the search
 
-// The exchanges of an image that is not refused, on devices that wait: each event goes to the devices as the one before left them, and the
-// level that they answer to the master's next step. Gives the number of events.
+// The exchanges of an image that is not refused, on devices that wait, a stretch at a time: its events go to the devices as the one before left
+// them, and the levels that they answer to the master's next steps. Gives the number of events.
 fn exchange(image: &[u8], codes: &mut [u8], trace: &mut [u8], lines: &mut [LineState]) -> usize
     requires { ⌜ Ready (now image) (now codes) (now trace) (now lines) ⌝ }
     ensures { λ r. ⌜ (r ≡ length (searchOf (now (image .entry)) .trace))
@@ -241,10 +496,12 @@ fn exchange(image: &[u8], codes: &mut [u8], trace: &mut [u8], lines: &mut [LineS
     let mut sent: usize = 0;
     while has_event(step) {
         let event = event_in(step);
-        let level = bus::level(image, lines, event);
-        bus::step_all(image, lines, event, level);
-        step = next_step(codes, trace, sent, step, event, level);
-        sent = sent + 1;
+        let ahead = bus::ahead(image, lines);
+        let told = tell(image, codes, trace, sent, step, ahead);
+        let stretch = stretch_in(told);
+        bus::steps_all(image, lines, event, stretch);
+        step = step_in(told);
+        sent = sent + stretch_length(stretch);
     }
     sent
 }
