@@ -54,7 +54,7 @@ both-level a b j =
     let small : x < 4294967296 = omega (arith, and-le-l (levelsIn a) (levelsIn b)) in
     ap (λ (w : ℕ). bitOf w j) (levels-of x _ small) ∙ bit-and (levelsIn a) (levelsIn b) j
 
-smaller-few : (a b : ℕ) → (smaller a b ≤ a) × (smaller a b ≤ b)
+pub smaller-few : (a b : ℕ) → (smaller a b ≤ a) × (smaller a b ≤ b)
 unfolding smaller
 smaller-few a b = choose (ltb a b) refl
   where

@@ -1,4 +1,5 @@
--- Document 01, 'ROM stage': several bits, the lowest first.
+-- Not from document 01: several bits at once, the lowest first, for functions that take several slots at once. Nothing is decided here: each
+-- definition is one of `Bit.antt` or `Crc.antt` so many times.
 use Prim.Native.Nat.{ℕ, zero, suc, _+_}
 use mathlib.Core.Bool.{Bool, true, _&&_, Bool·beq}
 use mathlib.Core.List.{List}

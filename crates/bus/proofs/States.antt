@@ -13,7 +13,7 @@ use Rattle.image.specs.Image.{countOf}
 use Rattle.device.specs.declared.LineState.{LineState}
 use Rattle.device.specs.Device.{waitingState}
 use Rattle.bus.specs.Bus.{Device}
-use Rattle.bus.specs.Loops.{deviceIn, devicesIn, lineAt, servedOf, stateIn, statesGiven}
+use Rattle.bus.specs.Loops.{deviceIn, devicesIn, lineAt, servedOf}
 use Rattle.bus.proofs.Laws.{served-lines}
 
 -- the devices of one line state more
@@ -90,7 +90,3 @@ module _ (image : List ℕ) (f : Device → LineState) where
   -- there are as many as before
   pub all-length : (lines : List LineState) → length (map f (devicesIn image 0 (take (countOf image) lines)) ++ drop (countOf image) lines) ≡ length lines
   all-length lines = sym (ap length (steps-all lines)) ∙ steps-length (servedOf image (length lines)) lines
-
-pub given-length : (image : List ℕ) (lines : List LineState) (byte stretch : ℕ) → length (statesGiven image lines byte stretch) ≡ length lines
-unfolding statesGiven
-given-length image lines byte stretch = all-length image (stateIn byte stretch) lines

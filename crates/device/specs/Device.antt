@@ -132,25 +132,31 @@ waitingState = stateOf waiting
 abbrev pub resetState : LineState
 resetState = stateOf atRomCommand
 
--- a line state with a number outside its stage's range, in a memory function of another kind, or with a body not of its kind's size is
--- taken as waiting; a family that is not known has no bytes of a body
+-- Our own ruling, as document 01 has no such line state: one with a number outside its stage's range, in a memory function of another kind, or
+-- with a body not of its kind's size is taken as waiting. A family that is not known has no bytes of a body.
 unfoldable pub taken : LineState → Kind → List ℕ → Stage
 taken state kind body = cond (eqb (length body) (bodySize kind) && stageRange (state .stage) kind) (state .stage) waiting
 
+-- what a device sends in a slot
 unfoldable pub sendsOf : LineState → Kind → List ℕ → Bool
 sendsOf state kind body = stageSends (taken state kind body) body
 
+-- its line state after a slot in which the line had a level
 unfoldable pub stateAfter : LineState → Kind → List ℕ → Bool → LineState
 stateAfter state kind body level = stateOf (stageStep (taken state kind body) kind body level)
 
+-- its body after that slot
 unfoldable pub writeOf : LineState → Kind → List ℕ → Bool → List ℕ
 writeOf state kind body level = stageWrite (taken state kind body) kind body level
 
+-- its body after a reset
 unfoldable pub resetBody : LineState → Kind → List ℕ → List ℕ
 resetBody state kind body = stageReset (taken state kind body) body
 
+-- its line state after a program pulse
 unfoldable pub pulseOf : LineState → Kind → List ℕ → LineState
 pulseOf state kind body = stateOf (stagePulse (taken state kind body))
 
+-- its body after a program pulse
 unfoldable pub programOf : LineState → Kind → List ℕ → List ℕ
 programOf state kind body = stageProgram (taken state kind body) body

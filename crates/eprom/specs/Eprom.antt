@@ -154,7 +154,7 @@ unfoldable pub writeCrcStep : Field → ℕ → ℕ → ℕ → ℕ → Stage
 writeCrcStep field address byte bits register =
     cond (ltb bits 7) (inEprom (WriteCrc field address byte (bits + 1) (register / 2))) (inEprom (PulseDue field address byte))
 
--- the address rises by one, and the register is loaded with it; after the last address the device waits
+-- the address rises by one, and the register is loaded with its low byte, which is all of it; after the last address the device waits
 unfoldable pub nextAddress : Field → ℕ → Stage
 nextAddress field address =
     cond (ltb (address + 1) (fieldLength field)) (inEprom (WriteData field (address + 1) 0 0 (address + 1))) waiting

@@ -1,5 +1,5 @@
 -- Document 01, 'The searching master': a bit of a code is two read slots and a direction. Here their three steps are taken at once, so that a
--- search need not copy the master for each.
+-- search need not copy the master for each. Nothing is decided here: `bitSteps` is `nextOf` three times.
 use Prim.Native.Nat.{ℕ, _-_}
 use mathlib.Core.Bool.{Bool, true, false, _&&_}
 use lib.Dec.{ltb}

@@ -84,7 +84,7 @@ refused = record { outcome = Refused; events = 0; codes = 0 }
 unfoldable pub driveResult : List ℕ → List ℕ → List ℕ → Driven
 driveResult levels trace codes = cond (roomRefused levels trace codes) refused (fed levels)
 
--- Document 01's number of an outcome: 7, or that of the master's end; there is none while the master goes on
+-- the number of an outcome: 7, which is our own, or document 01's of the master's end; there is none while the master goes on
 unfoldable pub outcomeNumber : Outcome → Option ℕ
 outcomeNumber Refused = some 7
 outcomeNumber (Ended e) = some (endNumber e)

@@ -172,7 +172,7 @@ readsLevel (SecondRead at first) = true
 readsLevel (Direction at bit) = false
 readsLevel (Ended e) = false
 
--- a master that no fresh one comes to is taken as ended, without number
+-- Our own ruling, as document 01 has no such master: one that no fresh master comes to is taken as ended, without number.
 unfoldable pub after : Master → Bool → Master
 after m level = cond (inRange m) (stageAfter (m .stage) m level) (withStage m (Ended Done))
 

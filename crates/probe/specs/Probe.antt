@@ -4,7 +4,7 @@ use Rattle.master.specs.Master.{endNumber}
 use Rattle.master.specs.declared.Outcome.{Outcome}
 use Rattle.master.specs.declared.Outcome.the-variants.{Refused, Ended, Unfinished}
 
--- Document 01's number: 7, or that of the master's end; 255 where the master would go on, which has none
+-- the number of an outcome: 7, which is our own, or document 01's of the master's end; 255 where the master would go on, which has none
 unfoldable pub numbered : Outcome → ℕ
 numbered Refused = 7
 numbered (Ended e) = endNumber e

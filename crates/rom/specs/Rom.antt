@@ -46,7 +46,7 @@ afterRead at = cond (ltb at 63) (Rom (Read (at + 1))) addressed
 unfoldable pub afterMatch : ℕ → Bool → Stage
 afterMatch at same = cond same (cond (ltb at 63) (Rom (Match (at + 1))) addressed) waiting
 
--- a code bit that was compared with the master's direction
+-- a code bit that was compared with the level of the third slot, the direction
 unfoldable pub afterDirection : ℕ → Bool → Stage
 afterDirection at same = cond same (cond (ltb at 63) (Rom (Search (at + 1) Bit)) addressed) waiting
 

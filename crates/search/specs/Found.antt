@@ -16,7 +16,7 @@ use Rattle.search.specs.Refusal.{searchRefusal}
 unfoldable pub foundIn : ℕ → List ℕ → Found
 foundIn number trace = record { number = number; passes = passesIn trace; resets = resetsIn trace; slots = slotsIn trace }
 
--- what a search leaves: what it gives back, the codes, the trace and the line states
+-- what a search leaves: what it gives back, the codes, the trace and the line states; the image is only read
 pub record SearchOutcome : Type 0 where
   pub found : Found
   pub codes : List ℕ

@@ -5,10 +5,10 @@ use mathlib.Core.Bool.{Bool, true, false, cond}
 use mathlib.Core.List.{List}
 use native.Mathlib.Omega.{arith}
 use lib.Dec.{ltb}
-use borrow.Author.Tests.{lt-ltb, le-leb, ltb-true, ltb-false, leb-true}
+use borrow.Author.Tests.{lt-ltb, le-leb, ltb-true, leb-true}
 use Rattle.bits.specs.Bit.{bitOf, shiftIn}
 use Rattle.bits.specs.Slots.{slotsWord, levelsIn, countIn, onesWord, smaller, wordAt}
-use Rattle.bits.proofs.Slots.{Follows, count-of, word-few, value-first, ones-first, word-first, ones-follow, register-follows, word-follows}
+use Rattle.bits.proofs.Slots.{Follows, count-of, smaller-few, word-few, value-first, ones-first, word-first, ones-follow, register-follows, word-follows}
 use Rattle.kind.specs.Kind.{ta1, scratchpad, memory}
 use Rattle.line.specs.declared.SramStage.{SramStage}
 use Rattle.line.specs.declared.SramStage.the-variants.{WriteAddress, WriteData, ReadRegisters, ReadScratchpad, CopyPattern, Copied, ReadAddress, ReadMemory}
@@ -34,14 +34,6 @@ first (ReadAddress bits value) size body = ones-first (16 - bits)
 first (ReadMemory at) size body = word-first body (8 * memory + at) (memoryLeft at size)
 
 -- ---- how many slots there are
-
-smaller-few : (a b : ℕ) → (smaller a b ≤ a) × (smaller a b ≤ b)
-unfolding smaller
-smaller-few a b = choose (ltb a b) refl
-  where
-    choose : (t : Bool) → ltb a b ≡ t → (cond t a b ≤ a) × (cond t a b ≤ b)
-    choose true e = let l = ltb-true a b e in (omega arith, omega arith)
-    choose false e = let l = ltb-false a b e in (omega arith, omega arith)
 
 smaller-next : (a b c d : ℕ) → a ≤ suc c → b ≤ suc d → smaller a b ≤ suc (smaller c d)
 unfolding smaller

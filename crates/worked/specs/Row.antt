@@ -1,4 +1,4 @@
--- A row of the table of examples, and what is right of it: the definitions of the run and of the search say just that.
+-- Document 01, 'Shop-floor examples': a row of the table of examples, and what is right of it: the definitions of the run and of the search say just that.
 use Prim.Native.Nat.{ℕ}
 use mathlib.Core.Path.{_≡_}
 use mathlib.Core.List.{List, [], _∷_, _++_}

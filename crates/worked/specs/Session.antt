@@ -1,4 +1,4 @@
--- A session with devices as the data sheets' tables have it, byte by byte: what the master does, and what it sees on the line.
+-- Document 01, 'Shop-floor examples': a session with devices as the data sheets' tables have it, byte by byte: what the master does, and what it sees on the line.
 use Prim.Native.Nat.{ℕ, zero, suc, _*_, _/_, _%_}
 use mathlib.Core.List.{List, [], _∷_, _++_}
 use lib.ListN.{length, replicate}
