@@ -1,5 +1,5 @@
--- Not from document 01: what the functions of `src/` below `run` do, for any image and any line states, each loop's state by recursion on how many turns it has
--- made. Where the image is not refused and there is room this is what `Bus.antt` and `Run.antt` say (`proofs/Shown.antt`).
+-- Not from document 01: what the functions of `src/` below `run` do, for any image and any line states, each loop's state by recursion on how
+-- many turns it has made. Where the image is not refused and there is room this is what `Bus.antt` and `Run.antt` say (`proofs/Shown.antt`).
 use Prim.Native.Nat.{ℕ, zero, suc, _+_, _-_, _*_}
 use mathlib.Core.Bool.{Bool, true, false, cond, _&&_}
 use mathlib.Core.List.{List, [], _∷_, _++_, map}

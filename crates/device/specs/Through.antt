@@ -1,5 +1,5 @@
--- Not from document 01: several slots of a device at once. Nothing is decided here: `slotsLeave` and `stepsLeave` are the slots one by one, and laws say
--- that what is sent ahead is what is sent (proofs/Ahead.antt), and that the stage after several slots is theirs (proofs/Through.antt).
+-- Not from document 01: several slots of a device at once. Nothing is decided here: `slotsLeave` and `stepsLeave` are the slots one by one, and
+-- laws say that what is sent ahead is what is sent (proofs/Ahead.antt), and that the stage after several slots is theirs (proofs/Through.antt).
 use Prim.Native.Nat.{ℕ, zero, suc, _+_, _-_}
 use mathlib.Core.Bool.{Bool, cond, _||_}
 use mathlib.Core.List.{List}

@@ -1,6 +1,6 @@
--- Not from document 01: several slots of the DS1982 memory stage at once, within the unit under way: an address, a byte, or with a read the four bytes at an address
--- that is a multiple of four. Nothing is decided here: `slotsLeave` (crate `device`) says what slots do, one by one, and a law there says that
--- this is the same.
+-- Not from document 01: several slots of the DS1982 memory stage at once, within the unit under way: an address, a byte, or with a read the four
+-- bytes at an address that is a multiple of four. Nothing is decided here: `slotsLeave` (crate `device`) says what slots do, one by one, and a
+-- law there says that this is the same.
 use Prim.Native.Nat.{ℕ, _+_, _-_, _*_, _/_, _%_, _^_}
 use mathlib.Core.Bool.{cond}
 use mathlib.Core.List.{List}

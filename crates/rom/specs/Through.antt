@@ -1,6 +1,6 @@
--- Not from document 01: several slots of the ROM stage at once, what is sent in them whatever their levels are, and the stage after them. They stay within the command,
--- within a half of the code, or within the three slots of a code bit in search ROM. Nothing is decided here: `romSends` and `romStep` say what a slot
--- does, `slotsLeave` (crate `device`) what slots do one by one, and laws there say that this is the same.
+-- Not from document 01: several slots of the ROM stage at once, what is sent in them whatever their levels are, and the stage after them. They
+-- stay within the command, within a half of the code, or within the three slots of a code bit in search ROM. Nothing is decided here: `romSends`
+-- and `romStep` say what a slot does, `slotsLeave` (crate `device`) what slots do one by one, and laws there say that this is the same.
 use Prim.Native.Nat.{ℕ, _+_, _-_, _%_}
 use mathlib.Core.Bool.{Bool, cond}
 use mathlib.Core.List.{List}

@@ -1,6 +1,6 @@
--- Not from document 01: what a device in the DS1992/DS1993 memory stage sends in its next slots, and several slots of it at once, within the unit under way: the bits of
--- an address or of the registers, or four bytes of the scratchpad or of the memory. Nothing is decided here: `slotsLeave` (crate `device`) says what
--- slots do, one by one, and laws there say that this is the same.
+-- Not from document 01: what a device in the DS1992/DS1993 memory stage sends in its next slots, and several slots of it at once, within the
+-- unit under way: the bits of an address or of the registers, or four bytes of the scratchpad or of the memory. Nothing is decided here:
+-- `slotsLeave` (crate `device`) says what slots do, one by one, and laws there say that this is the same.
 use Prim.Native.Nat.{ℕ, _+_, _-_, _*_, _%_}
 use mathlib.Core.Bool.{Bool, cond, _&&_}
 use mathlib.Core.List.{List}
