@@ -1,7 +1,7 @@
 -- A device that waits has no part in a slot: the level, its line state and the image stay. Assumes nothing.
 use Prim.Native.Nat.{ℕ, zero, suc, _+_, _-_, _<_, _≤_}
 use mathlib.Core.Path.{_≡_, refl, sym, ap, _∙_}
-use mathlib.Core.Bool.{Bool, true, false, _&&_, true≢false}
+use mathlib.Core.Bool.{Bool, true, false, cond, _&&_, true≢false}
 use mathlib.Core.List.{List, _++_}
 use native.Mathlib.Omega.{arith}
 use lib.ListN.{length, take, drop, take-append-drop}
@@ -13,13 +13,13 @@ use Rattle.line.specs.declared.Stage.{Stage}
 use Rattle.line.specs.declared.Stage.the-variants.{Rom, Memory}
 use Rattle.device.specs.declared.LineState.{LineState}
 use Rattle.device.specs.Device.{stateOf, waitingState}
-use Rattle.device.specs.Through.{Left}
+use Rattle.device.specs.Through.{Left, stepsLeave}
 use Rattle.device.proofs.Several.{slots-waiting, steps-waiting}
 use Rattle.bus.specs.declared.Event.{Event}
 use Rattle.bus.specs.declared.Event.the-variants.{Slot}
 use Rattle.bus.specs.declared.Place.{Place}
 use Rattle.bus.specs.Bus.{Device, deviceOf, eventOf}
-use Rattle.bus.specs.Loops.{isWaiting, waitsIn, idleIn, placeIn, deviceAt, deviceIn, withBody, afterSlots, afterStretch, given, turnedState, turnedImage, stateGiven, stateIn}
+use Rattle.bus.specs.Loops.{isWaiting, waitsIn, idleIn, placeIn, deviceAt, deviceIn, withBody, afterSlots, afterStretch, given, turnedState, turnedImage, stageOn, romOn, slotsGiven, stateGiven, stateIn}
 use Rattle.bits.specs.Slots.{levelsIn, countIn}
 use Rattle.bus.proofs.Laws.{Inside, place-inside}
 
@@ -56,11 +56,15 @@ module _ (byte : ℕ) (state : LineState) (idle : idleIn byte state ≡ true) wh
 
     -- given a stretch, where the image is only read
     pub idle-given-state : (stretch : ℕ) → state ≡ stateIn byte stretch d
-    unfolding stateGiven deviceIn deviceAt
+    unfolding stateGiven slotsGiven deviceIn deviceAt stageOn romOn
     idle-given-state stretch = slot-is (λ (v : Event). state ≡ stateGiven v (levelsIn stretch) (countIn stretch) d) byte (unfolded .0)
         (λ sent. unfolded .1
         ∙ sym (ap (λ (s : LineState). stateGiven (Slot sent) (levelsIn stretch) (countIn stretch) (deviceIn image i s)) (unfolded .1)
-        ∙ steps-waiting (d .kind) (d .body) (levelsIn stretch) (countIn stretch)))
+        ∙ waits-on (ltb 32 (countIn stretch))))
+      where
+        waits-on : (t : Bool) → cond t waitingState (stepsLeave (d .kind) (d .body) (levelsIn stretch) (countIn stretch) waitingState) ≡ waitingState
+        waits-on true = refl
+        waits-on false = steps-waiting (d .kind) (d .body) (levelsIn stretch) (countIn stretch)
 
     -- given a stretch
     idle-given : (stretch : ℕ) → given byte stretch d ≡ d

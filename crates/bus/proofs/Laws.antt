@@ -14,17 +14,22 @@ use lib.ListN.{length, getD, drop, drop-of-length-le, length-set, length-append,
 use lib.Seq.{drop-cons, length-take-le}
 use lib.Bits.{bitAnd, and-le-l}
 use lib.Pow.{pow-mono}
-use lib.Dec.{ltb, leb, lit<}
+use lib.Dec.{eqb, ltb, leb, lit<}
 use borrow.Author.Tests.{leb-true, ltb-true, ltb-false, le-ltb}
 use Rattle.kind.specs.declared.Kind.the-variants.{Unknown}
 use Rattle.kind.specs.Kind.{bodySize}
 use Rattle.image.specs.Image.{countOf, kindAt, offsetAt}
 use Rattle.image.specs.Refusal.{Cause, cause, firstOf, imageCauses, imageRefusal}
+use Rattle.line.specs.declared.SearchSlot.{SearchSlot}
+use Rattle.line.specs.declared.SearchSlot.the-variants.{Bit, Complement, Direction}
+use Rattle.line.specs.declared.RomStage.the-variants.{Waiting, Command, Read, Match, Search}
+use Rattle.line.specs.declared.Stage.{Stage}
+use Rattle.line.specs.declared.Stage.the-variants.{Rom, Memory}
 use Rattle.device.specs.declared.LineState.{LineState}
 use Rattle.bus.specs.Refusal.{someByte, badTrace, badPulse, noRunRoom, runCauses, runRefusal}
 use Rattle.bus.specs.declared.Place.{Place}
 use Rattle.bus.specs.Bus.{eventOf, answerByte}
-use Rattle.bus.specs.Loops.{placeIn, deviceAt, deviceIn, withBody, waitsIn, lineAt, servedOf, deviceAhead, aheadWith, aheads, masterLevel, slotAt, slotsFrom, slotLevels, given, putLevels, turnedImage, BusState, busState, turnAt, turns, filled, RunState, Reached, stretchAt, stretches, events}
+use Rattle.bus.specs.Loops.{placeIn, deviceAt, deviceIn, withBody, waitsIn, lineAt, servedOf, deviceAhead, ones, bitMark, searchMark, romMark, markOf, aheadWith, aheads, masterLevel, slotAt, slotsFrom, slotLevels, given, putLevels, turnedImage, BusState, busState, turnAt, turns, filled, RunState, Reached, stretchAt, stretches, events}
 use Rattle.bus.proofs.Runs.{stretch-same}
 
 -- ---- the place of a body
@@ -301,19 +306,64 @@ byte-cond true = refl
 byte-cond false = refl
 
 -- what is sent ahead is a word
-both-fits : (a b : ℕ) → bothSlots a b < 2 ^ 64
+pub both-small : (a b : ℕ) → bothSlots a b < 0x10000000000
 unfolding bothSlots smaller
-both-fits a b = choose (ltb (countIn a) (countIn b))
+both-small a b = choose (ltb (countIn a) (countIn b))
   where
-    choose : (t : Bool) → 4294967296 * cond t (countIn a) (countIn b) + bitAnd (levelsIn a) (levelsIn b) < 2 ^ 64
+    choose : (t : Bool) → 4294967296 * cond t (countIn a) (countIn b) + bitAnd (levelsIn a) (levelsIn b) < 0x10000000000
     choose true = omega (arith, and-le-l (levelsIn a) (levelsIn b))
     choose false = omega (arith, and-le-l (levelsIn a) (levelsIn b))
+
+-- a mark stands above the slots of a word
+search-above : (i at : ℕ) (slot : SearchSlot) → (u : ℕ) × (searchMark i at slot ≡ 0x10000000000 * u) × (u < 65536)
+unfolding searchMark bitMark
+search-above i at Bit = choose (ltb i 64) refl (ltb at 64) refl
+  where
+    choose : (a : Bool) → ltb i 64 ≡ a → (b : Bool) → ltb at 64 ≡ b
+        → (u : ℕ) × (cond (a && b) (0x10000000000 * (at + 1) + 0x1000000000000 * i) 0 ≡ 0x10000000000 * u) × (u < 65536)
+    choose true a true b =
+        let few = ltb-true i 64 a in
+        let low = ltb-true at 64 b in
+        (at + 1 + 256 * i, omega arith, omega arith)
+    choose true a false b = (0, refl, omega arith)
+    choose false a b e = (0, refl, omega arith)
+search-above i at Complement = (0, refl, omega arith)
+search-above i at Direction = (0, refl, omega arith)
+
+mark-above : (i : ℕ) (stage : Stage) → (u : ℕ) × (markOf i stage ≡ 0x10000000000 * u) × (u < 65536)
+unfolding markOf romMark
+mark-above i (Rom Waiting) = (0, refl, omega arith)
+mark-above i (Rom (Command bits value)) = (0, refl, omega arith)
+mark-above i (Rom (Read at)) = (0, refl, omega arith)
+mark-above i (Rom (Match at)) = (0, refl, omega arith)
+mark-above i (Rom (Search at slot)) = search-above i at slot
+mark-above i (Memory m) = (0, refl, omega arith)
+
+-- a word with a mark has the slots of the word
+pub record Marked (word marked : ℕ) : Type 0 where
+  pub levels : levelsIn marked ≡ levelsIn word
+  pub count : countIn marked ≡ countIn word
+  pub fits : marked < 2 ^ 64
+
+pub both-marked : (a b i : ℕ) (stage : Stage) (t : Bool) → Marked (bothSlots a b) (bothSlots a b + cond t (markOf i stage) 0)
+both-marked a b i stage true =
+    let small = both-small a b in
+    let m = mark-above i stage in
+    let u = m .0 in
+    let is : markOf i stage ≡ 0x10000000000 * u = m .1 in
+    let few : u < 65536 = m .2 in
+    record { levels = omega arith; count = omega arith; fits = omega arith }
+both-marked a b i stage false = let small = both-small a b in record { levels = omega arith; count = omega arith; fits = omega arith }
 
 pub aheads-fit : (image : List ℕ) (lines : List LineState) (i : ℕ) → aheads image lines i < 2 ^ 64
 unfolding aheads aheadWith
 aheads-fit image lines zero = lit< tt
 aheads-fit image lines (suc i) = choose (waitsIn (lineAt lines i .stage)) (aheads-fit image lines i)
   where
-    choose : (t : Bool) → aheads image lines i < 2 ^ 64 → cond t (aheads image lines i) (bothSlots (aheads image lines i) (deviceAhead (deviceIn image i (lineAt lines i)))) < 2 ^ 64
+    word : ℕ
+    word = aheads image lines i
+
+    choose : (t : Bool) → word < 2 ^ 64
+        → cond t word (bothSlots word (deviceAhead (deviceIn image i (lineAt lines i))) + cond (eqb word ones) (markOf i (lineAt lines i .stage)) 0) < 2 ^ 64
     choose true h = h
-    choose false h = both-fits (aheads image lines i) (deviceAhead (deviceIn image i (lineAt lines i)))
+    choose false h = both-marked word (deviceAhead (deviceIn image i (lineAt lines i))) i (lineAt lines i .stage) (eqb word ones) .fits

@@ -23,10 +23,10 @@ use Rattle.bus.specs.declared.Place.{Place}
 use Rattle.bus.specs.Bus.{Device, deviceOf, eventOf, Run, runTrace}
 use Rattle.bus.specs.Run.{devicesFrom, waitingDevices, headerOf, bodiesOf, statesOf, runOutcome, leftByRun, runAt, runOf, RunOutcome, RunLeaves}
 use Rattle.bus.specs.Refusal.{someByte, badTrace, badPulse, runRefusal}
-use Rattle.bus.specs.Loops.{placeIn, deviceAt, deviceIn, withBody, servedOf, lineAt, aheadWith, aheads, afterStretch, given, stretchFrom, putLevels, turnedState, turnedImage, BusState, busState, turnAt, turns, filled, RunState, runState, Reached, stretchAt, stretches, events}
+use Rattle.bus.specs.Loops.{placeIn, deviceAt, deviceIn, withBody, servedOf, lineAt, ones, aheadWith, aheads, afterStretch, given, stretchFrom, putLevels, turnedState, turnedImage, BusState, busState, turnAt, turns, filled, RunState, runState, Reached, stretchAt, stretches, events}
 use Rattle.bus.proofs.Laws.{admitted, not-refused}
 use Rattle.bus.proofs.Runs.{runAfter, run-append, run-length, run-same, AllSame, none, also, stretch-same, part-same, same-length}
-use Rattle.bus.proofs.Stretches.{withDevice, aheadsOn, aheads-more, ones, answersOf, countAt, levelsAt, stretch-is, stretch-some, stretch-within, stretch-levels, count-few, put-is}
+use Rattle.bus.proofs.Stretches.{withDevice, aheadsOn, aheads-more, answersOf, countAt, levelsAt, stretch-is, stretch-some, stretch-within, stretch-levels, count-few, put-is}
 
 -- ---- devices that stand at the entries of an image from i on
 pub record Entered (image : List ℕ) (i : ℕ) (d : Device) : Type 0 where
@@ -247,19 +247,21 @@ module _ (image : List ℕ) (known : Known image) where
           ∙ ap (deviceIn (imageOf (xs ++ d ∷ ys)) (length xs)) (line-is xs d ys)
           ∙ device-is xs d ys (subst (Stand image 0) cut stand) (sym (ap length cut) ∙ all)
 
-      aheads-are : (i : ℕ) → i ≤ length ds → aheads (imageOf ds) (linesOf ds) i ≡ aheadsOn ones (take i ds)
+      aheads-are : (i : ℕ) → i ≤ length ds → aheads (imageOf ds) (linesOf ds) i ≡ aheadsOn ones 0 (take i ds)
       unfolding aheads aheadWith deviceIn deviceAt
       aheads-are zero h = refl
       aheads-are (suc i) h =
-          ap (λ (w : ℕ). withDevice w (deviceIn (imageOf ds) i (lineAt (linesOf ds) i))) (aheads-are i (omega arith))
-          ∙ ap (withDevice (aheadsOn ones (take i ds))) (device-at i h)
-          ∙ sym (ap (aheadsOn ones) (take-suc ds i nobody h) ∙ aheads-more ones (take i ds) (getD ds i nobody))
+          let index : 0 + length (take i ds) ≡ i = omega (arith, length-take-le i ds (omega arith)) in
+          ap (λ (w : ℕ). withDevice w i (deviceIn (imageOf ds) i (lineAt (linesOf ds) i))) (aheads-are i (omega arith))
+          ∙ ap (withDevice (aheadsOn ones 0 (take i ds)) i) (device-at i h)
+          ∙ sym (ap (aheadsOn ones 0) (take-suc ds i nobody h) ∙ aheads-more ones 0 (take i ds) (getD ds i nobody)
+          ∙ ap (λ (k : ℕ). withDevice (aheadsOn ones 0 (take i ds)) k (getD ds i nobody)) index)
 
-      ahead-is : aheads (imageOf ds) (linesOf ds) (countOf image) ≡ aheadsOn ones ds
+      ahead-is : aheads (imageOf ds) (linesOf ds) (countOf image) ≡ aheadsOn ones 0 ds
       ahead-is =
           ap (aheads (imageOf ds) (linesOf ds)) (sym all)
           ∙ aheads-are (length ds) (omega arith)
-          ∙ ap (aheadsOn ones) (take-length ds)
+          ∙ ap (aheadsOn ones 0) (take-length ds)
 
       turned-is : (byte stretch : ℕ) → turns byte stretch (length ds) (busStateOf ds) ≡ busStateOf (map (given byte stretch) ds)
       turned-is byte stretch =
@@ -309,7 +311,7 @@ module _ (image : List ℕ) (known : Known image) where
 
         -- the word has both
         count-is : countIn (slotsWord levels count) ≡ count
-        count-is = omega (arith, stretch-levels trace k es, count-few trace k (aheadsOn ones es))
+        count-is = omega (arith, stretch-levels trace k es, count-few trace k (aheadsOn ones 0 es))
 
         levels-are : levelsIn (slotsWord levels count) ≡ levels
         levels-are = omega (arith, stretch-levels trace k es)
@@ -325,7 +327,7 @@ module _ (image : List ℕ) (known : Known image) where
             let by : ℕ → ℕ → Reached = λ v m. let t = turns byte v m (busStateOf es) in record { next = k + countIn v; left = runState (t .image) (putLevels left k (levelsIn v) (countIn v)) (t .lines) } in
             let with : List Device → ℕ → ℕ → Reached = λ fs l c. record { next = k + c; left = runState (imageOf fs) (putLevels left k l c) (linesOf fs) } in
             ap (λ (u : ℕ). by (stretchFrom trace k u n) n) (ahead-is es stand′ all′)
-            ∙ ap (λ (m : ℕ). by (stretchFrom trace k (aheadsOn ones es) m) m) (sym all′)
+            ∙ ap (λ (m : ℕ). by (stretchFrom trace k (aheadsOn ones 0 es) m) m) (sym all′)
             ∙ ap (λ (t : BusState). record { next = k + countIn w; left = runState (t .image) (putLevels left k (levelsIn w) (countIn w)) (t .lines) }) (turned-is es stand′ all′ byte w)
             ∙ ap (λ (l : ℕ). with (map (afterStretch (eventOf byte) l (countIn w)) es) l (countIn w)) levels-are
             ∙ ap (λ (c : ℕ). with (map (afterStretch (eventOf byte) levels c) es) levels c) count-is

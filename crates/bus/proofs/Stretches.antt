@@ -21,24 +21,26 @@ use Rattle.device.proofs.Ahead.{ahead-sends, waiting-ahead}
 use Rattle.bus.specs.declared.Event.{Event}
 use Rattle.bus.specs.declared.Event.the-variants.{Slot, Reset, Pulse}
 use Rattle.bus.specs.Bus.{Device, eventOf, pullsLow, someLow, presence, levelOf, nextDevice, nextState, nextBody, busStepAt, busStep, Run, answerByte, withAnswer, runTrace}
-use Rattle.bus.specs.Loops.{masterLevel, deviceAhead, afterSlots, afterStretch, slotAt, slotsFrom, stretchCount, slotLevels, levelsBy, stretchLevels, putLevels, stretchFrom, waitsIn, aheads, busState, turns, Reached, stretchAt, stretches}
-use Rattle.bus.proofs.Laws.{slot-there, bit-fits, levels-few}
+use Rattle.bus.specs.Loops.{masterLevel, deviceAhead, ones, markOf, afterSlots, afterStretch, slotAt, slotsFrom, stretchCount, slotLevels, levelsBy, stretchLevels, putLevels, stretchFrom, waitsIn, aheads, busState, turns, Reached, stretchAt, stretches}
+use Rattle.bus.proofs.Laws.{slot-there, bit-fits, levels-few, Marked, both-marked}
 use Rattle.bus.proofs.Idle.{waits-is}
 use Rattle.bus.proofs.Runs.{runAfter, run-append}
 
 -- ---- what devices send ahead
 
--- a word with a device's, and with all of theirs
-abbrev pub withDevice : ℕ → Device → ℕ
-withDevice word d = cond (waitsIn (d .state .stage)) word (bothSlots word (deviceAhead d))
+-- a word with that of device i, and with those of all devices from i on
+abbrev pub withDevice : ℕ → ℕ → Device → ℕ
+withDevice word i d = cond (waitsIn (d .state .stage)) word (bothSlots word (deviceAhead d) + cond (eqb word ones) (markOf i (d .state .stage)) 0)
 
-abbrev pub aheadsOn : ℕ → List Device → ℕ
-aheadsOn word [] = word
-aheadsOn word (d ∷ ds) = aheadsOn (withDevice word d) ds
+abbrev pub aheadsOn : ℕ → ℕ → List Device → ℕ
+aheadsOn word i [] = word
+aheadsOn word i (d ∷ ds) = aheadsOn (withDevice word i d) (suc i) ds
 
-pub aheads-more : (word : ℕ) (xs : List Device) (d : Device) → aheadsOn word (xs ++ d ∷ []) ≡ withDevice (aheadsOn word xs) d
-aheads-more word [] d = refl
-aheads-more word (x ∷ xs) d = aheads-more (withDevice word x) xs d
+pub aheads-more : (word i : ℕ) (xs : List Device) (d : Device) → aheadsOn word i (xs ++ d ∷ []) ≡ withDevice (aheadsOn word i xs) (i + length xs) d
+aheads-more word i [] d = ap (λ (k : ℕ). withDevice word k d) (sym (add-zero i))
+aheads-more word i (x ∷ xs) d =
+    let place : suc i + length xs ≡ i + suc (length xs) = omega arith in
+    aheads-more (withDevice word i x) (suc i) xs d ∙ ap (λ (k : ℕ). withDevice (aheadsOn (withDevice word i x) (suc i) xs) k d) place
 
 -- a device that waits sends ones
 waits-ones : (d : Device) → waitsIn (d .state .stage) ≡ true → deviceAhead d ≡ onesWord 32
@@ -60,42 +62,44 @@ known-both a b (suc j) k =
     let inside = ltb-true (suc j) (countIn (bothSlots a b)) (rw (ne-eqb (suc j) 0 (λ e. omega arith)) at k) in
     (rw (lt-ltb (suc j) (countIn a) (omega (arith, few .0, inside))) (or-true (eqb (suc j) 0)), rw (lt-ltb (suc j) (countIn b) (omega (arith, few .1, inside))) (or-true (eqb (suc j) 0)))
 
-with-level : (word : ℕ) (d : Device) (j : ℕ) → j < 32 → bitOf (levelsIn (withDevice word d)) j ≡ (bitOf (levelsIn word) j && bitOf (levelsIn (deviceAhead d)) j)
-with-level word d j h = choose (waitsIn (d .state .stage)) refl
+-- a mark says nothing of the slots
+marked-of : (word i : ℕ) (d : Device) → Marked (bothSlots word (deviceAhead d)) (bothSlots word (deviceAhead d) + cond (eqb word ones) (markOf i (d .state .stage)) 0)
+marked-of word i d = both-marked word (deviceAhead d) i (d .state .stage) (eqb word ones)
+
+with-level : (word i : ℕ) (d : Device) (j : ℕ) → j < 32 → bitOf (levelsIn (withDevice word i d)) j ≡ (bitOf (levelsIn word) j && bitOf (levelsIn (deviceAhead d)) j)
+with-level word i d j h = choose (waitsIn (d .state .stage)) refl
   where
     choose : (t : Bool) → waitsIn (d .state .stage) ≡ t
-        → bitOf (levelsIn (cond t word (bothSlots word (deviceAhead d)))) j ≡ (bitOf (levelsIn word) j && bitOf (levelsIn (deviceAhead d)) j)
+        → bitOf (levelsIn (cond t word (bothSlots word (deviceAhead d) + cond (eqb word ones) (markOf i (d .state .stage)) 0))) j ≡ (bitOf (levelsIn word) j && bitOf (levelsIn (deviceAhead d)) j)
     choose true e =
         sym (and-true (bitOf (levelsIn word) j))
         ∙ ap (λ (b : Bool). bitOf (levelsIn word) j && b) (sym (ap (λ (w : ℕ). bitOf (levelsIn w) j) (waits-ones d e) ∙ ones-level j h))
-    choose false e = both-level word (deviceAhead d) j
+    choose false e = ap (λ (l : ℕ). bitOf l j) (marked-of word i d .levels) ∙ both-level word (deviceAhead d) j
 
-with-known : (word : ℕ) (d : Device) (j : ℕ) → j < 32 → knownAt (withDevice word d) j ≡ true → (knownAt word j ≡ true) × (knownAt (deviceAhead d) j ≡ true)
-with-known word d j h = choose (waitsIn (d .state .stage)) refl
+with-known : (word i : ℕ) (d : Device) (j : ℕ) → j < 32 → knownAt (withDevice word i d) j ≡ true → (knownAt word j ≡ true) × (knownAt (deviceAhead d) j ≡ true)
+unfolding knownAt
+with-known word i d j h = choose (waitsIn (d .state .stage)) refl
   where
-    choose : (t : Bool) → waitsIn (d .state .stage) ≡ t → knownAt (cond t word (bothSlots word (deviceAhead d))) j ≡ true
+    choose : (t : Bool) → waitsIn (d .state .stage) ≡ t
+        → knownAt (cond t word (bothSlots word (deviceAhead d) + cond (eqb word ones) (markOf i (d .state .stage)) 0)) j ≡ true
         → (knownAt word j ≡ true) × (knownAt (deviceAhead d) j ≡ true)
     choose true e k = (k, ap (λ (w : ℕ). knownAt w j) (waits-ones d e) ∙ ones-known j h)
-    choose false e k = known-both word (deviceAhead d) j k
+    choose false e k = known-both word (deviceAhead d) j (ap (λ (c : ℕ). eqb j 0 || ltb j c) (sym (marked-of word i d .count)) ∙ k)
 
 -- bit j of all of theirs
 abbrev allBits : ℕ → List Device → Bool
 allBits j [] = true
 allBits j (d ∷ ds) = bitOf (levelsIn (deviceAhead d)) j && allBits j ds
 
-bits-on : (word j : ℕ) (ds : List Device) → j < 32 → bitOf (levelsIn (aheadsOn word ds)) j ≡ (bitOf (levelsIn word) j && allBits j ds)
-bits-on word j [] h = sym (and-true (bitOf (levelsIn word) j))
-bits-on word j (d ∷ ds) h =
-    bits-on (withDevice word d) j ds h
-    ∙ ap (λ (b : Bool). b && allBits j ds) (with-level word d j h)
+bits-on : (word i j : ℕ) (ds : List Device) → j < 32 → bitOf (levelsIn (aheadsOn word i ds)) j ≡ (bitOf (levelsIn word) j && allBits j ds)
+bits-on word i j [] h = sym (and-true (bitOf (levelsIn word) j))
+bits-on word i j (d ∷ ds) h =
+    bits-on (withDevice word i d) (suc i) j ds h
+    ∙ ap (λ (b : Bool). b && allBits j ds) (with-level word i d j h)
     ∙ and-assoc (bitOf (levelsIn word) j) (bitOf (levelsIn (deviceAhead d)) j) (allBits j ds)
 
--- with no device all is one
-abbrev pub ones : ℕ
-ones = 0xFFFFFFFFFFFFFFFF
-
-aheads-bit : (j : ℕ) (ds : List Device) → j < 32 → bitOf (levelsIn (aheadsOn ones ds)) j ≡ allBits j ds
-aheads-bit j ds h = bits-on ones j ds h ∙ ap (λ (b : Bool). b && allBits j ds) (ones-bit j h)
+aheads-bit : (j : ℕ) (ds : List Device) → j < 32 → bitOf (levelsIn (aheadsOn ones 0 ds)) j ≡ allBits j ds
+aheads-bit j ds h = bits-on ones 0 j ds h ∙ ap (λ (b : Bool). b && allBits j ds) (ones-bit j h)
 
 -- what is known of all is known of each
 both : (a b : Bool) → (a && b) ≡ true → (a ≡ true) × (b ≡ true)
@@ -106,13 +110,13 @@ abbrev AllKnown : ℕ → List Device → Type 0
 AllKnown j [] = Unit {0}
 AllKnown j (d ∷ ds) = (knownAt (deviceAhead d) j ≡ true) × AllKnown j ds
 
-known-first : (word j : ℕ) (ds : List Device) → j < 32 → knownAt (aheadsOn word ds) j ≡ true → knownAt word j ≡ true
-known-first word j [] h k = k
-known-first word j (d ∷ ds) h k = with-known word d j h (known-first (withDevice word d) j ds h k) .0
+known-first : (word i j : ℕ) (ds : List Device) → j < 32 → knownAt (aheadsOn word i ds) j ≡ true → knownAt word j ≡ true
+known-first word i j [] h k = k
+known-first word i j (d ∷ ds) h k = with-known word i d j h (known-first (withDevice word i d) (suc i) j ds h k) .0
 
-known-each : (word j : ℕ) (ds : List Device) → j < 32 → knownAt (aheadsOn word ds) j ≡ true → AllKnown j ds
-known-each word j [] h k = tt
-known-each word j (d ∷ ds) h k = (with-known word d j h (known-first (withDevice word d) j ds h k) .1, known-each (withDevice word d) j ds h k)
+known-each : (word i j : ℕ) (ds : List Device) → j < 32 → knownAt (aheadsOn word i ds) j ≡ true → AllKnown j ds
+known-each word i j [] h k = tt
+known-each word i j (d ∷ ds) h k = (with-known word i d j h (known-first (withDevice word i d) (suc i) j ds h k) .1, known-each (withDevice word i d) (suc i) j ds h k)
 
 -- the devices after the first j slots send what is said of slot j
 low-known : (levels j : ℕ) (ds : List Device) → AllKnown j ds → someLow (map (afterSlots levels j) ds) ≡ not (allBits j ds)
@@ -130,11 +134,11 @@ low-known levels j (d ∷ ds) known =
     not-and true b = refl
     not-and false b = refl
 
-pub level-ahead : (sent : Bool) (levels j : ℕ) (ds : List Device) → j < 32 → knownAt (aheadsOn ones ds) j ≡ true
-    → levelOf (Slot sent) (map (afterSlots levels j) ds) ≡ (sent && bitOf (levelsIn (aheadsOn ones ds)) j)
+pub level-ahead : (sent : Bool) (levels j : ℕ) (ds : List Device) → j < 32 → knownAt (aheadsOn ones 0 ds) j ≡ true
+    → levelOf (Slot sent) (map (afterSlots levels j) ds) ≡ (sent && bitOf (levelsIn (aheadsOn ones 0 ds)) j)
 unfolding levelOf
 level-ahead sent levels j ds h known =
-    ap (λ (b : Bool). not (not sent || b)) (low-known levels j ds (known-each ones j ds h known))
+    ap (λ (b : Bool). not (not sent || b)) (low-known levels j ds (known-each ones 0 j ds h known))
     ∙ flip sent (allBits j ds)
     ∙ ap (λ (b : Bool). sent && b) (sym (aheads-bit j ds h))
   where
@@ -226,7 +230,7 @@ map-next sent levels c (d ∷ ds) = ap (λ (l : List Device). afterSlots levels 
 
 module _ (trace : List ℕ) (k : ℕ) (ds : List Device) where
   abbrev ahead : ℕ
-  ahead = aheadsOn ones ds
+  ahead = aheadsOn ones 0 ds
 
   abbrev count : ℕ
   count = slotsFrom trace k ahead 0 32
@@ -291,10 +295,10 @@ first-slot trace k ahead e = rw e (omega arith)
 
 module _ (trace : List ℕ) (k : ℕ) (ds : List Device) where
   abbrev pub countAt : ℕ
-  countAt = stretchCount trace k (aheadsOn ones ds)
+  countAt = stretchCount trace k (aheadsOn ones 0 ds)
 
   abbrev pub levelsAt : ℕ
-  levelsAt = stretchLevels trace k (aheadsOn ones ds) (length ds) countAt
+  levelsAt = stretchLevels trace k (aheadsOn ones 0 ds) (length ds) countAt
 
   abbrev byteAt : ℕ
   byteAt = getD trace k 0
@@ -305,7 +309,7 @@ module _ (trace : List ℕ) (k : ℕ) (ds : List Device) where
 
   of-slots : slotAt trace k ≡ true → Is (eventOf byteAt) countAt levelsAt
   unfolding stretchCount stretchLevels levelsBy afterStretch
-  of-slots s = rw (s, slot-event trace k s) (slots-run trace k ds (slotsFrom trace k (aheadsOn ones ds) 0 32) (omega arith))
+  of-slots s = rw (s, slot-event trace k s) (slots-run trace k ds (slotsFrom trace k (aheadsOn ones 0 ds) 0 32) (omega arith))
 
   -- an event that is no slot
   other : (P : Event → Type 0) (b : ℕ) → ltb b 2 ≡ false → P Reset → P Pulse → P (eventOf b)
@@ -321,7 +325,7 @@ module _ (trace : List ℕ) (k : ℕ) (ds : List Device) where
   reset-level (d ∷ es) = rw (ne-eqb (suc (length es)) 0 (λ z. omega arith))
 
   alone : (event : Event) → Type 0
-  alone event = let levels = levelsBy event trace k (aheadsOn ones ds) (length ds) 1 in
+  alone event = let levels = levelsBy event trace k (aheadsOn ones 0 ds) (length ds) 1 in
       _≡_ {A = Run} (record { answers = answerByte (levelOf event ds) ∷ []; devices = map (nextDevice event (levelOf event ds)) ds }) (record { answers = answersOf levels 1; devices = map (afterStretch event levels 1) ds })
 
   at-reset : alone Reset
@@ -350,20 +354,20 @@ module _ (trace : List ℕ) (k : ℕ) (ds : List Device) where
   unfolding stretchCount
   stretch-some = choose (slotAt trace k) refl
     where
-      choose : (b : Bool) → slotAt trace k ≡ b → 0 < cond b (slotsFrom trace k (aheadsOn ones ds) 0 32) 1
-      choose true s = first-slot trace k (aheadsOn ones ds) s
+      choose : (b : Bool) → slotAt trace k ≡ b → 0 < cond b (slotsFrom trace k (aheadsOn ones 0 ds) 0 32) 1
+      choose true s = first-slot trace k (aheadsOn ones 0 ds) s
       choose false s = omega arith
 
   pub stretch-within : k < length trace → k + countAt ≤ length trace
-  stretch-within h = count-within trace k (aheadsOn ones ds) h
+  stretch-within h = count-within trace k (aheadsOn ones 0 ds) h
 
   -- its levels are 32 bits
   pub stretch-levels : levelsAt < 4294967296
   unfolding stretchLevels levelsBy
   stretch-levels = by-event (eventOf byteAt)
     where
-      by-event : (v : Event) → levelsBy v trace k (aheadsOn ones ds) (length ds) countAt < 4294967296
-      by-event (Slot sent) = levels-word trace k (aheadsOn ones ds) 0 countAt (count-few trace k (aheadsOn ones ds))
+      by-event : (v : Event) → levelsBy v trace k (aheadsOn ones 0 ds) (length ds) countAt < 4294967296
+      by-event (Slot sent) = levels-word trace k (aheadsOn ones 0 ds) 0 countAt (count-few trace k (aheadsOn ones 0 ds))
       by-event Reset = one-few (eqb (length ds) 0)
       by-event Pulse = omega arith
 

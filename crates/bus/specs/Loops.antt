@@ -1,6 +1,6 @@
 -- Not from document 01: what the functions of `src/` below `run` do, for any image and any line states, each loop's state by recursion on how
 -- many turns it has made. Where the image is not refused and there is room this is what `Bus.antt` and `Run.antt` say (`proofs/Shown.antt`).
-use Prim.Native.Nat.{ℕ, zero, suc, _+_, _-_, _*_}
+use Prim.Native.Nat.{ℕ, zero, suc, _+_, _-_, _*_, _/_, _%_}
 use mathlib.Core.Bool.{Bool, true, false, cond, _&&_}
 use mathlib.Core.List.{List, [], _∷_, _++_, map}
 use lib.ListN.{length, getD, set, take, drop}
@@ -10,6 +10,8 @@ use Rattle.bits.specs.Slots.{slotsWord, levelsIn, countIn, bothSlots}
 use Rattle.kind.specs.declared.Kind.the-variants.{Unknown}
 use Rattle.kind.specs.Kind.{bodySize}
 use Rattle.image.specs.Image.{countOf, kindAt, offsetAt}
+use Rattle.line.specs.declared.SearchSlot.{SearchSlot}
+use Rattle.line.specs.declared.SearchSlot.the-variants.{Bit, Complement, Direction}
 use Rattle.line.specs.declared.RomStage.{RomStage}
 use Rattle.line.specs.declared.RomStage.the-variants.{Waiting, Command, Read, Match, Search}
 use Rattle.line.specs.declared.Stage.{Stage}
@@ -83,14 +85,56 @@ deviceAhead d = aheadOf (d .state) (d .kind) (d .body)
 abbrev pub lineAt : List LineState → ℕ → LineState
 lineAt lines i = getD lines i waitingState
 
+-- with none, ones in more slots than a stretch has
+abbrev pub ones : ℕ
+ones = 0xFFFFFFFFFFFFFFFF
+
+-- the mark of a device that does not wait, where it is the only one: above the slots of a word, which code bit it is at in a search, counted
+-- from 1, and its number. A device that is elsewhere has none
+unfoldable pub bitMark : ℕ → ℕ → ℕ
+bitMark i at = cond (ltb i 64 && ltb at 64) (0x10000000000 * (at + 1) + 0x1000000000000 * i) 0
+
+unfoldable pub searchMark : ℕ → ℕ → SearchSlot → ℕ
+searchMark i at Bit = bitMark i at
+searchMark i at Complement = 0
+searchMark i at Direction = 0
+
+unfoldable pub romMark : ℕ → RomStage → ℕ
+romMark i Waiting = 0
+romMark i (Command bits value) = 0
+romMark i (Read at) = 0
+romMark i (Match at) = 0
+romMark i (Search at slot) = searchMark i at slot
+
+unfoldable pub markOf : ℕ → Stage → ℕ
+markOf i (Rom r) = romMark i r
+markOf i (Memory m) = 0
+
 -- by one device more: a slot is low where one of them sends 0, and known where it is of all. One that waits has no part in it
 unfoldable pub aheadWith : ℕ → List ℕ → ℕ → LineState → ℕ
-aheadWith ahead image i state = cond (waitsIn (state .stage)) ahead (bothSlots ahead (deviceAhead (deviceIn image i state)))
+aheadWith ahead image i state =
+    cond (waitsIn (state .stage)) ahead
+    (bothSlots ahead (deviceAhead (deviceIn image i state)) + cond (eqb ahead ones) (markOf i (state .stage)) 0)
 
--- by the first i devices together: with none, ones in more slots than a stretch has
+-- by the first i devices together
 unfoldable pub aheads : List ℕ → List LineState → ℕ → ℕ
-aheads image lines zero = 0xFFFFFFFFFFFFFFFF
+aheads image lines zero = ones
 aheads image lines (suc i) = aheadWith (aheads image lines i) image i (lineAt lines i)
+
+-- what the mark in a word says: the code bit, counted from 1, and the device
+unfoldable pub loneBit : ℕ → ℕ
+loneBit ahead = ahead / 0x10000000000 % 256
+
+unfoldable pub loneDevice : ℕ → ℕ
+loneDevice ahead = ahead / 0x1000000000000 % 256
+
+-- what that device leaves the line at, where each direction is its bit: the first read slot of code bit b is at bit b of these bytes, the second
+-- at its complement
+unfoldable pub firstEight : List ℕ → List ℕ
+firstEight body = getD body 0 0 ∷ getD body 1 0 ∷ getD body 2 0 ∷ getD body 3 0 ∷ getD body 4 0 ∷ getD body 5 0 ∷ getD body 6 0 ∷ getD body 7 0 ∷ []
+
+unfoldable pub loneLevels : List ℕ → ℕ → List ℕ
+loneLevels image ahead = firstEight (deviceIn image (loneDevice ahead) waitingState .body)
 
 -- ---- a stretch of a trace: some slots in which all that is sent is known, or one reset or pulse, as a word of slots
 
@@ -177,9 +221,28 @@ filled (suc i) state lines = set (filled i state lines) i state
 
 -- ---- the line states alone, where the image is only read
 
+-- of a device that goes on for so many bits of a search, since each direction is its bit
+unfoldable pub bitsOn : ℕ → ℕ → ℕ
+bitsOn at n = cond (ltb (at + n) 64) (at + n) at
+
+unfoldable pub romOn : RomStage → ℕ → RomStage
+romOn Waiting n = Waiting
+romOn (Command bits value) n = Command bits value
+romOn (Read at) n = Read at
+romOn (Match at) n = Match at
+romOn (Search at slot) n = Search (bitsOn at n) slot
+
+unfoldable pub stageOn : Stage → ℕ → Stage
+stageOn (Rom r) n = Rom (romOn r n)
+stageOn (Memory m) n = Memory m
+
+-- after slots: a stretch of more than a word holds is one of whole bits of a search, in which every device goes on that does not wait
+unfoldable pub slotsGiven : ℕ → ℕ → Device → LineState
+slotsGiven levels count d = cond (ltb 32 count) (record { stage = stageOn (d .state .stage) (count / 3) }) (stepsLeave (d .kind) (d .body) levels count (d .state))
+
 -- a device's after a stretch
 unfoldable pub stateGiven : Event → ℕ → ℕ → Device → LineState
-stateGiven (Slot sent) levels count d = stepsLeave (d .kind) (d .body) levels count (d .state)
+stateGiven (Slot sent) levels count d = slotsGiven levels count d
 stateGiven Reset levels count d = resetState
 stateGiven Pulse levels count d = pulseOf (d .state) (d .kind) (d .body)
 

@@ -5,6 +5,7 @@
 use device::LineState;
 use kind::Kind;
 use line::RomStage;
+use line::SearchSlot;
 use line::Stage;
 ghost use mathlib.Core.Path.{_≡_};
 ghost use Prim.Native.Nat.{_+_, _<_, _≤_};
@@ -18,7 +19,7 @@ ghost use Rattle.image.specs.Refusal.{someBelow};
 ghost use Rattle.bus.specs.Bus.{deviceOf, eventOf};
 ghost use Rattle.bus.specs.Refusal.{someByte, badTrace, isEprom, badPulse, noRunRoom, runRefusal};
 ghost use Rattle.bus.specs.Run.{RunLeaves, runOf};
-ghost use Rattle.bus.specs.Loops.{isWaiting, waitsIn, idleIn, placeIn, deviceAt, deviceIn, masterLevel, servedOf, aheadWith, aheads, stateIn, statesGiven, afterStretch, turnedState, turnedImage, slotAt, slotsFrom, stretchCount, slotLevels, stretchLevels, stretchFrom, putLevels, busState, turns, filled, runState, events};
+ghost use Rattle.bus.specs.Loops.{isWaiting, waitsIn, idleIn, placeIn, deviceAt, deviceIn, masterLevel, servedOf, bitMark, searchMark, romMark, markOf, aheadWith, aheads, loneBit, firstEight, loneLevels, bitsOn, romOn, stageOn, slotsGiven, stateIn, statesGiven, afterStretch, turnedState, turnedImage, slotAt, slotsFrom, stretchCount, slotLevels, stretchLevels, stretchFrom, putLevels, busState, turns, filled, runState, events};
 ghost use Rattle.device.specs.Device.{waitingState};
 ghost use Rattle.device.specs.Through.{knownAt};
 
@@ -47,6 +48,15 @@ const MOST_SLOTS: u8 = 32;
 
 // Slots that nobody pulls low, as a word of slots, more than a stretch has.
 const ONES: u64 = 0xFFFFFFFFFFFFFFFF;
+
+// Above the slots of a word: the code bit of a lone device, counted from 1, and its number; the devices and code bits that these can name.
+const LONE_BIT: u64 = 0x10000000000;
+
+const LONE_DEVICE: u64 = 0x1000000000000;
+
+const MOST_DEVICES: usize = 64;
+
+const CODE_BITS: u8 = 64;
 
 // ---- one device
 
@@ -171,6 +181,52 @@ fn turn(image: &mut [u8], i: usize, state: LineState, byte: u8, stretch: u64) ->
     device_next(byte, stretch, state, kind, &mut image[start..end])
 }
 
+// The mark of device i at a code bit.
+fn bit_mark(i: usize, at: u8) -> u64
+    ensures { λ r. ⌜ r ≡ bitMark i at ⌝ }
+{
+    if i < MOST_DEVICES {
+        if at < CODE_BITS {
+            return LONE_BIT * (at as u64 + 1) + LONE_DEVICE * (i as u64);
+        }
+    }
+    0
+}
+
+// It has one at the first slot of the bit.
+fn search_mark(i: usize, at: u8, slot: SearchSlot) -> u64
+    ensures { λ r. ⌜ r ≡ searchMark i at slot ⌝ }
+{
+    match slot {
+        SearchSlot::Bit => bit_mark(i, at),
+        SearchSlot::Complement => 0,
+        SearchSlot::Direction => 0,
+    }
+}
+
+fn rom_mark(i: usize, r: RomStage) -> u64
+    ensures { λ m. ⌜ m ≡ romMark i r ⌝ }
+{
+    match r {
+        RomStage::Waiting => 0,
+        RomStage::Command { bits: _, value: _ } => 0,
+        RomStage::Read { at: _ } => 0,
+        RomStage::Match { at: _ } => 0,
+        RomStage::Search { at, slot } => search_mark(i, at, slot),
+    }
+}
+
+// The mark of device i, where it is the only one that does not wait.
+fn mark(i: usize, state: LineState) -> u64
+    ensures { λ r. ⌜ r ≡ markOf i (state .stage) ⌝ }
+{
+    let stage = state.stage;
+    match stage {
+        Stage::Rom(r) => rom_mark(i, r),
+        Stage::Memory(_) => 0,
+    }
+}
+
 // What the line is left at in the next slots, with device i on it as well.
 fn ahead_with(image: &[u8], i: usize, state: LineState, ahead: u64) -> u64
     ensures { λ r. ⌜ r ≡ aheadWith ahead (now (image .entry)) i state ⌝ }
@@ -182,7 +238,95 @@ fn ahead_with(image: &[u8], i: usize, state: LineState, ahead: u64) -> u64
     let kind = place.kind;
     let start = place.start;
     let end = place.end;
-    bits::both_slots(ahead, state.ahead(kind, &image[start..end]))
+    let both = bits::both_slots(ahead, state.ahead(kind, &image[start..end]));
+    if ahead == ONES {
+        return both + mark(i, state);
+    }
+    both
+}
+
+// What the mark in a word says of a lone device: the code bit that it is at in a search, counted from 1, or another number than that of a bit.
+pub fn lone_bit(ahead: u64) -> u8
+    ensures { λ r. ⌜ r ≡ loneBit ahead ⌝ }
+{
+    (ahead / LONE_BIT % 256) as u8
+}
+
+// The first eight bytes of a body: its registration code.
+fn code_of(body: &[u8]) -> [u8; 8]
+    ensures { λ r. ⌜ r ≡ firstEight (now (body .entry)) ⌝ }
+{
+    [
+        bits::byte_at(body, 0),
+        bits::byte_at(body, 1),
+        bits::byte_at(body, 2),
+        bits::byte_at(body, 3),
+        bits::byte_at(body, 4),
+        bits::byte_at(body, 5),
+        bits::byte_at(body, 6),
+        bits::byte_at(body, 7),
+    ]
+}
+
+// What it leaves the line at, where each direction is its bit: bit b of these bytes is the level of the first read slot of code bit b, and the
+// second is at the complement.
+pub fn lone_levels(image: &[u8], ahead: u64) -> [u8; 8]
+    ensures { λ r. ⌜ r ≡ loneLevels (now (image .entry)) ahead ⌝ }
+{
+    let place = place_of(image, (ahead / LONE_DEVICE % 256) as usize);
+    let start = place.start;
+    let end = place.end;
+    code_of(&image[start..end])
+}
+
+// The bit after so many more; there is none past the last.
+fn bits_on(at: u8, n: u8) -> u8
+    ensures { λ r. ⌜ r ≡ bitsOn at n ⌝ }
+{
+    if bits::within(at, n, CODE_BITS) {
+        at + n
+    } else {
+        at
+    }
+}
+
+fn rom_on(r: RomStage, n: u8) -> RomStage
+    ensures { λ s. ⌜ s ≡ romOn r n ⌝ }
+{
+    match r {
+        RomStage::Waiting => RomStage::Waiting,
+        RomStage::Command { bits, value } => RomStage::Command { bits, value },
+        RomStage::Read { at } => RomStage::Read { at },
+        RomStage::Match { at } => RomStage::Match { at },
+        RomStage::Search { at, slot } => RomStage::Search {
+            at: bits_on(at, n),
+            slot,
+        },
+    }
+}
+
+fn stage_on(stage: Stage, n: u8) -> Stage
+    ensures { λ s. ⌜ s ≡ stageOn stage n ⌝ }
+{
+    match stage {
+        Stage::Rom(r) => Stage::Rom(rom_on(r, n)),
+        Stage::Memory(m) => Stage::Memory(m),
+    }
+}
+
+// What slots make of a device's line state: a stretch of more than a word holds is one of whole bits of a search, in which every device goes on
+// that does not wait.
+fn slots_given(stretch: u64, state: LineState, kind: Kind, body: &[u8]) -> LineState
+    ensures { λ r. ⌜ r ≡ slotsGiven (levelsIn stretch) (countIn stretch) (deviceOf kind (now (body .entry)) state) ⌝ }
+{
+    let count = bits::count_in(stretch);
+    if MOST_SLOTS < count {
+        let stage = state.stage;
+        return LineState {
+            stage: stage_on(stage, count / 3),
+        };
+    }
+    state.steps(kind, body, bits::levels_in(stretch), count)
 }
 
 // What a stretch makes of a device's line state, where the body is only read.
@@ -190,12 +334,7 @@ fn device_given(byte: u8, stretch: u64, state: LineState, kind: Kind, body: &[u8
     ensures { λ r. ⌜ r ≡ stateIn byte stretch (deviceOf kind (now (body .entry)) state) ⌝ }
 {
     match event_of(byte) {
-        Event::Slot(_) => state.steps(
-            kind,
-            body,
-            bits::levels_in(stretch),
-            bits::count_in(stretch),
-        ),
+        Event::Slot(_) => slots_given(stretch, state, kind, body),
         Event::Reset => LineState::at_reset(),
         Event::Pulse => state.pulsed(kind, body),
     }

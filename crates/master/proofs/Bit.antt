@@ -1,19 +1,20 @@
 -- Laws of the three steps of a bit: what a search that takes them at once sends, and that it completes no code. Assumes nothing.
-use Prim.Native.Nat.{ℕ, _+_, _-_, _<_}
+use Prim.Native.Nat.{ℕ, suc, _+_, _-_, _<_, _≤_}
 use mathlib.Core.Path.{_≡_, refl, sym, ap, subst, _∙_}
 use mathlib.Core.Logic.{_⊎_, inl, inr}
-use mathlib.Core.Bool.{Bool, true, false, not, true≢false}
-use mathlib.Core.List.{[]}
+use mathlib.Core.Bool.{Bool, true, false, not, cond, true≢false}
+use mathlib.Core.List.{List, []}
 use native.Mathlib.Omega.{arith}
 use lib.Dec.{eqb, ltb}
 use borrow.Author.Tests.{lt-ltb, le-ltb, ltb-true}
+use Rattle.bits.specs.Bit.{bitAt, putBit}
 use Rattle.master.specs.declared.End.the-variants.{NoDevice}
 use Rattle.master.specs.declared.Stage.{Stage}
 use Rattle.master.specs.declared.Stage.the-variants.{Fresh, Reset, Command, FirstRead, SecondRead, Direction, Ended}
 use Rattle.master.specs.declared.Discrepancy.{Discrepancy}
 use Rattle.master.specs.declared.Master.{Master}
 use Rattle.master.specs.Master.{codeBits, mostPasses, event, end, endNumber, slot, readSlot, said, answerOf, says, withStage, stageInRange, inRange, sendDirection, afterReads, afterDirection, stageAfter, after, nextOf}
-use Rattle.master.specs.Bit.{stageReadsBit, readsBit, levelNumber, directionStep, bitSteps}
+use Rattle.master.specs.Bit.{stageReadsBit, readsBit, levelNumber, directionStep, bitSteps, stageReading, readingOf, withDirections, followedBits, followed}
 use Rattle.master.specs.Drive.{codeCompleted}
 use Rattle.master.proofs.Laws.{both, goes-by-stage, ended-stays}
 use Rattle.master.proofs.Clock.{reads-passes}
@@ -163,3 +164,77 @@ bit-read m h =
 pub none-completed : (before : ℕ) (n : Master) → n .passes ≡ before → codeCompleted before n ≡ []
 unfolding codeCompleted
 none-completed before n e = rw (le-ltb before (n .passes) (omega arith))
+
+-- ---- bits in which no two devices differ
+
+abbrev withCode : Master → Stage → List ℕ → Master
+withCode m stage code = record { stage = stage; passes = m .passes; code = code; opened = m .opened; previous = m .previous; last = m .last }
+
+pub followed-is : (m : Master) (levels : List ℕ) (at : ℕ) (code : List ℕ) → at ≡ readingOf m → at < codeBits - 1 → code ≡ withDirections (m .code) levels at (codeBits - 1 - at)
+    → withCode m (FirstRead (codeBits - 1)) code ≡ followed m levels
+unfolding followed followedBits
+followed-is m levels at code is low same =
+    let last : codeBits - 1 ≡ at + (codeBits - 1 - at) = omega arith in
+    ap (withCode m (FirstRead (codeBits - 1))) same
+    ∙ ap (λ (b : ℕ). withCode m (FirstRead b) (withDirections (m .code) levels at (codeBits - 1 - at))) last
+    ∙ ap (λ (b : ℕ). followedBits m levels b (codeBits - 1 - b)) is
+    ∙ ap (λ (b : Bool). cond b (followedBits m levels (readingOf m) (codeBits - 1 - readingOf m)) m) (sym (ap (λ (b : ℕ). ltb b (codeBits - 1)) (sym is) ∙ lt-ltb at (codeBits - 1) low))
+
+pub followed-not : (m : Master) (levels : List ℕ) (at : ℕ) → at ≡ readingOf m → codeBits - 1 ≤ at → m ≡ followed m levels
+unfolding followed
+followed-not m levels at is high =
+    ap (λ (b : Bool). cond b (followedBits m levels (readingOf m) (codeBits - 1 - readingOf m)) m) (sym (ap (λ (b : ℕ). ltb b (codeBits - 1)) (sym is) ∙ le-ltb at (codeBits - 1) high))
+
+-- the bit that is read
+stage-read : (s : Stage) (passes at : ℕ) → stageReading s passes ≡ at → at < codeBits → (s ≡ FirstRead at) × (passes < mostPasses)
+unfolding stageReading
+stage-read Fresh passes at e low = absurd (omega arith)
+stage-read Reset passes at e low = absurd (omega arith)
+stage-read (Command b) passes at e low = absurd (omega arith)
+stage-read (FirstRead b) passes at e low = choose (ltb passes mostPasses) refl e
+  where
+    choose : (t : Bool) → ltb passes mostPasses ≡ t → cond t b codeBits ≡ at → (FirstRead b ≡ FirstRead at) × (passes < mostPasses)
+    choose true t e = (ap FirstRead e, ltb-true passes mostPasses t)
+    choose false t e = absurd (omega arith)
+stage-read (SecondRead b first) passes at e low = absurd (omega arith)
+stage-read (Direction b bit) passes at e low = absurd (omega arith)
+stage-read (Ended x) passes at e low = absurd (omega arith)
+
+pub read-at : (m : Master) (at : ℕ) → readingOf m ≡ at → at < codeBits - 1 → Reading m at
+unfolding readingOf
+read-at m at e low = let r = stage-read (m .stage) (m .passes) at e (omega arith) in record { stands = r .0; more = low; going = r .1 }
+
+-- after some of the bits it reads the next
+pub followed-reads : {m : Master} {at : ℕ} → Reading m at → (levels : List ℕ) (j : ℕ) → at + j < codeBits - 1 → Reading (followedBits m levels at j) (at + j)
+unfolding followedBits
+followed-reads r levels j low = record { stands = refl; more = low; going = r .going }
+
+pub reads-bit : {m : Master} {at : ℕ} → Reading m at → readsBit m ≡ true
+unfolding readsBit stageReadsBit
+reads-bit {m} {at} r = ap (λ (s : Stage). stageReadsBit s (m .passes)) (r .stands) ∙ rw (lt-ltb at (codeBits - 1) (r .more), lt-ltb (m .passes) mostPasses (r .going))
+
+-- the three steps of the next
+pub followed-next : {m : Master} {at : ℕ} → Reading m at → (levels : List ℕ) (j : ℕ) → at + j < codeBits - 1 → (bit : Bool) → bitAt levels (at + j) ≡ bit
+    → bitSteps (followedBits m levels at j) bit (not bit) ≡ record { answer = answerOf (Direction (at + j) bit); next = followedBits m levels at (suc j) }
+unfolding followedBits withDirections afterReads sendDirection withStage
+followed-next {m} {at} r levels j low bit is = choose bit is
+  where
+    n : Master
+    n = followedBits m levels at j
+
+    stands : Reading n (at + j)
+    stands = followed-reads r levels j low
+
+    next : at + j + 1 ≡ at + suc j
+    next = omega arith
+
+    directs : (b : Bool) → bitAt levels (at + j) ≡ b → directionStep (sendDirection n (at + j) b (n .opened)) ≡ record { answer = answerOf (Direction (at + j) b); next = followedBits m levels at (suc j) }
+    directs b e =
+        ap (λ (x : Master). record { answer = answerOf (Direction (at + j) b); next = x })
+        (next-bit n (at + j) b (n .opened) false low (r .going)
+        ∙ ap (λ (i : ℕ). withCode m (FirstRead i) (putBit (withDirections (m .code) levels at j) (at + j) b)) next
+        ∙ ap (λ (y : Bool). withCode m (FirstRead (at + suc j)) (putBit (withDirections (m .code) levels at j) (at + j) y)) (sym e))
+
+    choose : (b : Bool) → bitAt levels (at + j) ≡ b → bitSteps n b (not b) ≡ record { answer = answerOf (Direction (at + j) b); next = followedBits m levels at (suc j) }
+    choose true e = by-reads stands true false ∙ directs true e
+    choose false e = by-reads stands false true ∙ directs false e

@@ -4,11 +4,11 @@
 // which event was sent last, and `at` which bit of the command or of the code it belongs to. The level that a step is given is the level
 // of that event.
 ghost use mathlib.Core.Path.{_≡_};
-ghost use Prim.Native.Nat.{_-_, _*_, _<_};
+ghost use Prim.Native.Nat.{_+_, _-_, _*_, _<_};
 ghost use lib.Seq.{sets};
 ghost use Rattle.bits.specs.Bit.{putBit};
 ghost use Rattle.master.specs.Master.{codeBits, codeBytes, mostPasses, fresh, withStage, slot, said, answerOf, says, inRange, afterReset, afterCommand, atDiscrepancy, sendDirection, afterReads, completed, afterPass, passEnd, afterDirection, after, nextOf, stepOf};
-ghost use Rattle.master.specs.Bit.{readsBit, directionStep, bitSteps};
+ghost use Rattle.master.specs.Bit.{readsBit, directionStep, bitSteps, readingOf, withDirections, followed};
 ghost use Rattle.master.specs.Drive.{started, eventsFrom, codeCompleted, codesFrom, feedTraceRoom, feedCodeRoom, refused, fed, driveResult, outcomeNumber, driveNumber, traceAfter, codesAfter};
 
 // Why a master ended.
@@ -140,6 +140,21 @@ fn with_direction(code: [u8; 8], at: u8, bit: bool) -> [u8; 8]
     let mut changed = code;
     bits::put_bit(&mut changed, at as usize, bit);
     changed
+}
+
+// A code with the directions of so many bits: each is the level of the bit's first read slot.
+fn with_directions(code: [u8; 8], levels: [u8; 8], at: u8, count: u8) -> [u8; 8]
+    requires { ⌜ at + count < 256 ⌝ }
+    ensures { λ r. ⌜ r ≡ withDirections code levels at count ⌝ }
+{
+    let mut held = code;
+    let mut j: u8 = 0;
+    while j < count {
+        let b = (at + j) as usize;
+        bits::put_bit(&mut held, b, bits::bit_at(&levels, b));
+        j = j + 1;
+    }
+    held
 }
 
 // Whether the search goes on after so many passes.
@@ -432,6 +447,47 @@ impl Master {
         let answer = answer_of(stage);
         let next = two.after(false);
         Step { answer, next }
+    }
+
+    // The bit whose first read slot was sent last, in a pass that goes on; 64 where there is none.
+    pub fn reading(self) -> u8
+        ensures { λ r. ⌜ r ≡ readingOf self ⌝ }
+    {
+        let stage = self.stage;
+        let passes = self.passes;
+        match stage {
+            Stage::Fresh => CODE_BITS,
+            Stage::Reset => CODE_BITS,
+            Stage::Command { at: _ } => CODE_BITS,
+            Stage::FirstRead { at } => if passes < MOST_PASSES { at } else { CODE_BITS },
+            Stage::SecondRead { at: _, first: _ } => CODE_BITS,
+            Stage::Direction { at: _, bit: _ } => CODE_BITS,
+            Stage::Ended(_) => CODE_BITS,
+        }
+    }
+
+    // The steps of the bits from the one that is read to the last but one, where no two devices differ in them: the first read slot of bit b is at
+    // the level that is bit b of these bytes, and the second at its complement, so that each direction is that level.
+    pub fn follow(self, levels: [u8; 8]) -> Master
+        ensures { λ r. ⌜ r ≡ followed self levels ⌝ }
+    {
+        let at = self.reading();
+        if at < CODE_BITS - 1 {
+            let held = self.code;
+            let code = with_directions(held, levels, at, CODE_BITS - 1 - at);
+            let opened = self.opened;
+            let previous = self.previous;
+            let last = self.last;
+            return Master {
+                stage: Stage::FirstRead { at: CODE_BITS - 1 },
+                passes: self.passes,
+                code,
+                opened,
+                previous,
+                last,
+            };
+        }
+        self
     }
 }
 

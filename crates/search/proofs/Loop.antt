@@ -100,7 +100,7 @@ module _ (image : List ℕ) where
   place-cut : (o size : ℕ) → o + size - o ≡ size
   place-cut o size = omega arith
 
-  device-same : (known : Known image) (i : ℕ) (s : LineState) → i < countOf image → deviceIn image i s ≡ deviceOf (kindAt image i) (bodyAt image i) s
+  pub device-same : (known : Known image) (i : ℕ) (s : LineState) → i < countOf image → deviceIn image i s ≡ deviceOf (kindAt image i) (bodyAt image i) s
   unfolding deviceIn deviceAt placeIn
   device-same known i s h =
       let o = offsetAt image i in

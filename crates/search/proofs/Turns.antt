@@ -1,22 +1,24 @@
 -- A turn of the loop of `exchange` is a stretch of exchanges: what it leaves is the state after as many single exchanges. Assumes nothing.
-use Prim.Native.Nat.{ℕ, zero, suc, _+_, _*_, _<_, _≤_}
+use Prim.Native.Nat.{ℕ, zero, suc, _+_, _-_, _*_, _/_, _<_, _≤_}
 use mathlib.Core.Path.{_≡_, refl, sym, ap, subst, _∙_}
 use mathlib.Core.Logic.{_⊎_, inl, inr}
-use mathlib.Core.Bool.{Bool, true, false, not, cond, _&&_, or-true, true≢false}
+use mathlib.Core.Bool.{Bool, true, false, not, cond, _&&_, and-true, or-true, true≢false}
 use mathlib.Core.List.{List, [], _∷_, _++_, map}
 use native.Mathlib.Omega.{arith}
 use native.Mathlib.Nat.{add-zero, add-suc}
 use native.Mathlib.Numerals.{add-one}
-use lib.ListN.{length, set, take, drop, length-map, take-append-drop}
+use lib.ListN.{length, set, take, drop, length-map, length-drop, take-append-drop}
 use lib.Seq.{sets, length-take-le, take-suc, take-at, drop-at}
 use lib.Bits.{bitAnd, and-le-l}
 use lib.Dec.{eqb, ltb, leb}
 use borrow.Author.Tests.{lt-ltb, le-ltb, ltb-true, ltb-false, leb-true, eqb-true, ne-eqb}
-use Rattle.bits.specs.Bit.{bitOf}
+use Rattle.bits.specs.Bit.{bitOf, bitAt}
 use Rattle.bits.specs.Slots.{slotsWord, levelsIn, countIn}
 use Rattle.bits.proofs.Slots.{levels-of, count-of}
 use Rattle.bits.proofs.Words.{bit-and}
-use Rattle.image.specs.Image.{countOf}
+use Rattle.kind.specs.Kind.{bodySize}
+use Rattle.image.specs.Image.{countOf, kindAt, offsetAt, bodyAt}
+use Rattle.image.proofs.Accepted.{accepted-known, inside}
 use Rattle.device.specs.declared.LineState.{LineState}
 use Rattle.device.specs.Device.{waitingState}
 use Rattle.device.specs.Device as Device
@@ -24,10 +26,10 @@ use Rattle.device.specs.Through.{knownAt, slotLeaves, slotsLeave, stepsLeave}
 use Rattle.bus.specs.declared.Event.{Event}
 use Rattle.bus.specs.declared.Event.the-variants as E
 use Rattle.bus.specs.Bus.{Device, eventOf, presence, levelOf, nextState, nextBody, nextDevice, answerByte}
-use Rattle.bus.specs.Loops.{deviceAt, deviceIn, devicesIn, lineAt, servedOf, aheadWith, aheads, afterSlots, stateGiven, statesGiven}
+use Rattle.bus.specs.Loops.{deviceAt, deviceIn, devicesIn, lineAt, servedOf, ones, aheadWith, aheads, loneBit, loneDevice, afterSlots, slotsGiven, stateGiven, statesGiven}
 use Rattle.bus.proofs.States.{devices-more, served-take}
 use Rattle.bus.proofs.Laws.{served-lines}
-use Rattle.bus.proofs.Stretches.{withDevice, aheadsOn, aheads-more, ones, level-ahead}
+use Rattle.bus.proofs.Stretches.{withDevice, aheadsOn, aheads-more, level-ahead}
 use Rattle.master.specs.declared.Answer.{Answer}
 use Rattle.master.specs.declared.Stage.{Stage}
 use Rattle.master.specs.declared.Stage.the-variants.{Fresh, Reset, Command, FirstRead, SecondRead, Direction, Ended}
@@ -35,19 +37,25 @@ use Rattle.master.specs.declared.Master.{Master}
 use Rattle.master.specs.declared.Step.{Step}
 use Rattle.master.specs.Master as M
 use Rattle.master.specs.Master.{commandBits, mostPasses, event, slot, said, withStage, inRange, stageInRange, stageAfter, afterCommand, after, nextOf, stepOf}
-use Rattle.master.specs.Bit.{readsBit, levelNumber, bitSteps}
+use Rattle.master.specs.Bit.{readsBit, levelNumber, bitSteps, readingOf, withDirections, followedBits, followed}
 use Rattle.master.specs.Drive.{codeCompleted}
 use Rattle.master.proofs.Laws.{both, goes-by-stage}
-use Rattle.master.proofs.Bit.{Absent, Directed, bit-read, none-completed}
+use Rattle.master.proofs.Bit.{Absent, Directed, bit-read, none-completed, Reading, read-at, followed-reads, reads-bit, followed-next}
 use Rattle.search.specs.declared.Told.{Told}
-use Rattle.search.specs.Exchange.{hasEvent, eventIn, Ready, oneLevel, toldOne, oneCodes, bitKnown, bitMask, bitTrace, bitTold, beginsCommand, commandTrace, commandMaster, commandTold, toldBit, toldCommand, bitTaken, levelTold, toldOf, toldTrace, toldCodes}
-use Rattle.search.proofs.Loop.{levelOn, statesAfter, State, exchanges, sentIn, levelIn, lines-length, doing, cannot, devices-next}
+use Rattle.search.specs.Exchange.{hasEvent, eventIn, Ready, oneLevel, toldOne, oneCodes, bitKnown, bitMask, bitTrace, bitTold, beginsCommand, commandTrace, commandMaster, commandTold, toldBit, toldCommand, bitTaken, levelTold}
+use Rattle.search.proofs.Loop.{levelOn, statesAfter, State, device-same, exchanges, sentIn, levelIn, lines-length, doing, cannot, devices-next}
 use Rattle.search.proofs.Loop as Loop
+use Rattle.search.proofs.Lone.{onState, stepsOf}
 
 -- ---- devices
 
+devices-length : (image : List ℕ) (j : ℕ) (states : List LineState) → length (devicesIn image j states) ≡ length states
+unfolding devicesIn
+devices-length image j [] = refl
+devices-length image j (s ∷ states) = ap suc (devices-length image (suc j) states)
+
 -- what all devices leave the line at in the next slots
-aheads-upto : (image : List ℕ) (lines : List LineState) (i : ℕ) → i ≤ length lines → aheads image lines i ≡ aheadsOn ones (devicesIn image 0 (take i lines))
+aheads-upto : (image : List ℕ) (lines : List LineState) (i : ℕ) → i ≤ length lines → aheads image lines i ≡ aheadsOn ones 0 (devicesIn image 0 (take i lines))
 unfolding aheads aheadWith deviceIn deviceAt devicesIn
 aheads-upto image lines zero h = refl
 aheads-upto image lines (suc i) h =
@@ -57,22 +65,19 @@ aheads-upto image lines (suc i) h =
     ap (devicesIn image 0) (take-suc lines i waitingState h)
     ∙ devices-more image 0 (take i lines) state
     ∙ ap (λ (k : ℕ). devicesIn image 0 (take i lines) ++ deviceIn image k state ∷ []) index in
-    ap (λ (w : ℕ). withDevice w (deviceIn image i state)) (aheads-upto image lines i (omega arith))
-    ∙ sym (ap (aheadsOn ones) more ∙ aheads-more ones (devicesIn image 0 (take i lines)) (deviceIn image i state))
+    let place : 0 + length (devicesIn image 0 (take i lines)) ≡ i = ap (λ (k : ℕ). 0 + k) (devices-length image 0 (take i lines)) ∙ index in
+    ap (λ (w : ℕ). withDevice w i (deviceIn image i state)) (aheads-upto image lines i (omega arith))
+    ∙ sym (ap (aheadsOn ones 0) more ∙ aheads-more ones 0 (devicesIn image 0 (take i lines)) (deviceIn image i state)
+    ∙ ap (λ (k : ℕ). withDevice (aheadsOn ones 0 (devicesIn image 0 (take i lines))) k (deviceIn image i state)) place)
 
 abbrev pub aheadIn : List ℕ → List LineState → ℕ
 aheadIn image lines = aheads image lines (servedOf image (length lines))
 
-ahead-is : (image : List ℕ) (lines : List LineState) → aheadIn image lines ≡ aheadsOn ones (devicesIn image 0 (take (countOf image) lines))
+pub ahead-is : (image : List ℕ) (lines : List LineState) → aheadIn image lines ≡ aheadsOn ones 0 (devicesIn image 0 (take (countOf image) lines))
 unfolding servedOf
 ahead-is image lines =
     aheads-upto image lines (servedOf image (length lines)) (served-lines image (length lines))
-    ∙ ap (λ (l : List LineState). aheadsOn ones (devicesIn image 0 l)) (served-take lines (countOf image) (ltb (length lines) (countOf image)) refl)
-
-devices-length : (image : List ℕ) (j : ℕ) (states : List LineState) → length (devicesIn image j states) ≡ length states
-unfolding devicesIn
-devices-length image j [] = refl
-devices-length image j (s ∷ states) = ap suc (devices-length image (suc j) states)
+    ∙ ap (λ (l : List LineState). aheadsOn ones 0 (devicesIn image 0 l)) (served-take lines (countOf image) (ltb (length lines) (countOf image)) refl)
 
 map-same : (levels : ℕ) (ds : List Device) → map (afterSlots levels 0) ds ≡ ds
 unfolding afterSlots slotsLeave
@@ -83,10 +88,6 @@ map-next : (sent : Bool) (levels c : ℕ) (ds : List Device) → map (nextDevice
 unfolding afterSlots slotsLeave slotLeaves nextDevice nextState nextBody
 map-next sent levels c [] = refl
 map-next sent levels c (d ∷ ds) = ap (λ (l : List Device). afterSlots levels (suc c) d ∷ l) (map-next sent levels c ds)
-
--- the line state of a device after so many slots, with its body only read
-abbrev stepsOf : ℕ → ℕ → Device → LineState
-stepsOf levels j d = stepsLeave (d .kind) (d .body) levels j (d .state)
 
 states-same : (image : List ℕ) (levels i : ℕ) (states : List LineState) → states ≡ map (stepsOf levels 0) (devicesIn image i states)
 unfolding devicesIn deviceIn deviceAt stepsLeave
@@ -102,7 +103,7 @@ states-next image sent levels j i (s ∷ states) =
 
 -- ---- events
 
-slot-of : (b : Bool) → eventOf (answerByte b) ≡ E.Slot b
+pub slot-of : (b : Bool) → eventOf (answerByte b) ≡ E.Slot b
 unfolding eventOf answerByte
 slot-of true = refl
 slot-of false = refl
@@ -145,7 +146,7 @@ unfolding said
 event-is (Answer.Event b) e h = cc
 event-is (Answer.End x) e h = let z : _≡_ {A = ℕ} 0 1 = cc in absurd (omega arith)
 
-slot-answer : (b : Bool) → slot b ≡ answerByte b
+pub slot-answer : (b : Bool) → slot b ≡ answerByte b
 unfolding slot answerByte
 slot-answer true = refl
 slot-answer false = refl
@@ -177,7 +178,7 @@ mask-second d = choose (eqb d 0)
     choose true = refl
     choose false = refl
 
-mask-third : (b : Bool) → bitOf (bitMask (answerByte b)) 2 ≡ b
+pub mask-third : (b : Bool) → bitOf (bitMask (answerByte b)) 2 ≡ b
 unfolding bitMask bitOf answerByte
 mask-third true = refl
 mask-third false = refl
@@ -188,10 +189,10 @@ and-swap true false = refl
 and-swap false true = refl
 and-swap false false = refl
 
-masked : (word mask j : ℕ) (b : Bool) → bitOf mask j ≡ b → bitOf (bitAnd word mask) j ≡ (b && bitOf word j)
+pub masked : (word mask j : ℕ) (b : Bool) → bitOf mask j ≡ b → bitOf (bitAnd word mask) j ≡ (b && bitOf word j)
 masked word mask j b e = bit-and word mask j ∙ and-swap (bitOf word j) (bitOf mask j) ∙ ap (λ (x : Bool). x && bitOf word j) e
 
-masked-few : (word mask : ℕ) → bitAnd (levelsIn word) mask < 4294967296
+pub masked-few : (word mask : ℕ) → bitAnd (levelsIn word) mask < 4294967296
 masked-few word mask = omega (arith, and-le-l (levelsIn word) mask)
 
 -- a slot that is known
@@ -303,11 +304,11 @@ module _ (m : Master) (word : ℕ) (reads : readsBit m ≡ true) (knows : bitKno
 abbrev commandStage : ℕ → Stage
 commandStage j = cond (ltb j 8) (Command j) (FirstRead 0)
 
-record AtCommand (m : Master) : Type 0 where
+pub record AtCommand (m : Master) : Type 0 where
   pub stands : m .stage ≡ Command 0
   pub going : m .passes < mostPasses
 
-at-command : (m : Master) → beginsCommand (m .stage) (m .passes) ≡ true → AtCommand m
+pub at-command : (m : Master) → beginsCommand (m .stage) (m .passes) ≡ true → AtCommand m
 unfolding beginsCommand
 at-command m h = choose (m .stage) refl h
   where
@@ -385,20 +386,20 @@ module _ (image codes₀ trace₀ : List ℕ) (lines₀ : List LineState) (ready
   abbrev st : ℕ → State
   st k = exchanges image k (Loop.start image codes₀ trace₀ lines₀ ready)
 
-  abbrev D : ℕ → List Device
+  abbrev pub D : ℕ → List Device
   D k = devicesIn image 0 (take n (st k .lines))
 
-  abbrev ahead : ℕ → ℕ
+  abbrev pub ahead : ℕ → ℕ
   ahead k = aheadIn image (st k .lines)
 
-  lines-many : (k : ℕ) → n ≤ length (st k .lines)
+  pub lines-many : (k : ℕ) → n ≤ length (st k .lines)
   lines-many k = let r = ready .line-room in omega (arith, lines-length image k (Loop.start image codes₀ trace₀ lines₀ ready))
 
   devices-many : (k : ℕ) → length (D k) ≡ n
   devices-many k = devices-length image 0 (take n (st k .lines)) ∙ length-take-le n (st k .lines) (lines-many k)
 
   -- a master that still sends is short of the end
-  short : (k : ℕ) → k ≤ N → hasEvent (st k .step .answer) ≡ true → k < N
+  pub short : (k : ℕ) → k ≤ N → hasEvent (st k .step .answer) ≡ true → k < N
   short k h e = choose (ltb k N) refl
     where
       choose : (b : Bool) → ltb k N ≡ b → k < N
@@ -529,7 +530,7 @@ module _ (image codes₀ trace₀ : List ℕ) (lines₀ : List LineState) (ready
   -- a turn of slots
   of-slots : (k levels c : ℕ) (sends : ℕ → Bool) (step : Step) (trace : List ℕ) → Script (st k .step .next) (ahead k) levels c sends → k ≤ N → 0 < c → levels < 4294967296
       → step ≡ stepAt (masters (st k .step .next) levels c) → trace ≡ eventsTrace (st k .trace) k sends c → Turn k (record { step = step; stretch = slotsWord levels c }) trace (st k .codes)
-  unfolding statesGiven stateGiven
+  unfolding statesGiven stateGiven slotsGiven
   of-slots k levels c sends step trace script start some small is traced =
       let f = script .few in
       let count : countIn (slotsWord levels c) ≡ c = count-of levels c small (omega arith) in
@@ -544,6 +545,7 @@ module _ (image codes₀ trace₀ : List ℕ) (lines₀ : List LineState) (ready
         lines-are = ap (λ (w : ℕ). map (stateGiven (eventOf (sentIn image (st k))) w (countIn (slotsWord levels c))) (D k) ++ drop n (st k .lines)) (levels-of levels c small)
             ∙ ap (λ (x : ℕ). map (stateGiven (eventOf (sentIn image (st k))) levels x) (D k) ++ drop n (st k .lines)) count
             ∙ ap (λ (e : Event). map (stateGiven e levels c) (D k) ++ drop n (st k .lines)) (ap (λ (i : ℕ). eventOf (sentIn image (st i))) (sym (add-zero k)) ∙ first)
+            ∙ ap (λ (t : Bool). map (λ (d : Device). cond t (onState (c / 3) (d .state)) (stepsOf levels c d)) (D k) ++ drop n (st k .lines)) (le-ltb 32 c f)
             ∙ sym (r .lines-are)
             ∙ ap (λ (i : ℕ). st (k + i) .lines) (sym count);
       }
@@ -558,7 +560,7 @@ module _ (image codes₀ trace₀ : List ℕ) (lines₀ : List LineState) (ready
       none [] = refl
       none (d ∷ es) = ne-eqb (suc (length es)) 0 (λ z. omega arith)
 
-      first : knownAt (aheadsOn ones (D k)) 0 ≡ true
+      first : knownAt (aheadsOn ones 0 (D k)) 0 ≡ true
       first = refl
 
       by-event : (e : Event) → oneLevel e n (ahead k) ≡ levelOf e (D k)
@@ -570,12 +572,12 @@ module _ (image codes₀ trace₀ : List ℕ) (lines₀ : List LineState) (ready
       by-event E.Pulse = refl
 
   one-states : (e : Event) (level : Bool) (ds : List Device) → map (stateGiven e (answerByte level) 1) ds ≡ map (nextState e level) ds
-  unfolding stateGiven nextState stepsLeave
+  unfolding stateGiven slotsGiven nextState stepsLeave
   one-states (E.Slot b) level ds = ap (λ (l : Bool). map (λ (d : Device). Device.stateAfter (d .state) (d .kind) (d .body) l) ds) (answer-bit level)
   one-states E.Reset level ds = refl
   one-states E.Pulse level ds = refl
 
-  of-one : (k : ℕ) → k < N → Turn k (toldOne (st k .step) (levelTold n (st k .step) (ahead k))) (set (st k .trace) k (sentIn image (st k))) (oneCodes (st k .codes) (st k .step .next) (levelTold n (st k .step) (ahead k)))
+  pub of-one : (k : ℕ) → k < N → Turn k (toldOne (st k .step) (levelTold n (st k .step) (ahead k))) (set (st k .trace) k (sentIn image (st k))) (oneCodes (st k .codes) (st k .step .next) (levelTold n (st k .step) (ahead k)))
   unfolding toldOne oneCodes exchanges statesGiven statesAfter
   of-one k small = subst (λ (b : Bool). Turn k (toldOne (st k .step) b) (set (st k .trace) k (sentIn image (st k))) (oneCodes (st k .codes) (st k .step .next) b)) (sym (one-level k)) turned
     where
@@ -600,7 +602,7 @@ module _ (image codes₀ trace₀ : List ℕ) (lines₀ : List LineState) (ready
 
   -- ---- any turn
 
-  of-bit : (k : ℕ) → k < N → readsBit (st k .step .next) ≡ true → bitKnown (ahead k) ≡ true
+  pub of-bit : (k : ℕ) → k < N → readsBit (st k .step .next) ≡ true → bitKnown (ahead k) ≡ true
       → Turn k (bitTold (bitTaken (st k .step .next) (ahead k)) (ahead k)) (bitTrace (st k .trace) k (eventIn (bitTaken (st k .step .next) (ahead k) .answer))) (st k .codes)
   unfolding bitTold
   of-bit k small reads knows =
@@ -609,24 +611,10 @@ module _ (image codes₀ trace₀ : List ℕ) (lines₀ : List LineState) (ready
       of-slots k levels 3 (bitSends (direction m (ahead k) reads knows)) _ _ (bit-script m (ahead k) reads knows) (omega arith) (omega arith)
       (masked-few (ahead k) (bitMask (eventIn (bitTaken m (ahead k) .answer)))) (bit-step m (ahead k) reads knows) (bit-trace m (ahead k) reads knows (st k .trace) k)
 
-  of-command : (k : ℕ) → k < N → AtCommand (st k .step .next) → 8 ≤ countIn (ahead k)
+  pub of-command : (k : ℕ) → k < N → AtCommand (st k .step .next) → 8 ≤ countIn (ahead k)
       → Turn k (commandTold (st k .step .next) (ahead k)) (commandTrace (st k .trace) k commandBits) (st k .codes)
   unfolding commandTold
   of-command k small command many =
       let m = st k .step .next in
       of-slots k (bitAnd (levelsIn (ahead k)) 0xF0) 8 (bitOf 0xF0) _ _ (command-script m (ahead k) command many) (omega arith) (omega arith)
       (masked-few (ahead k) 0xF0) (command-step m (ahead k) command many) (command-trace m (ahead k) command many (st k .trace) k 8)
-
-  pub turn : (k : ℕ) → k < N → Turn k (toldOf n (st k .step) (ahead k)) (toldTrace (st k .trace) k (st k .step) (ahead k)) (toldCodes n (st k .codes) (st k .step) (ahead k))
-  unfolding toldOf toldTrace toldCodes toldBit toldCommand
-  turn k small = choose (toldBit (st k .step .next) (ahead k)) refl (toldCommand (st k .step .next) (ahead k)) refl
-    where
-      choose : (b : Bool) → toldBit (st k .step .next) (ahead k) ≡ b → (c : Bool) → toldCommand (st k .step .next) (ahead k) ≡ c
-          → Turn k (cond b (bitTold (bitTaken (st k .step .next) (ahead k)) (ahead k)) (cond c (commandTold (st k .step .next) (ahead k)) (toldOne (st k .step) (levelTold n (st k .step) (ahead k)))))
-          (cond b (bitTrace (st k .trace) k (eventIn (bitTaken (st k .step .next) (ahead k) .answer))) (cond c (commandTrace (st k .trace) k commandBits) (set (st k .trace) k (sentIn image (st k)))))
-          (cond b (st k .codes) (cond c (st k .codes) (oneCodes (st k .codes) (st k .step .next) (levelTold n (st k .step) (ahead k)))))
-      choose true e c e′ = let t = both (readsBit (st k .step .next)) (bitKnown (ahead k)) e in of-bit k small (t .0) (t .1)
-      choose false e true e′ =
-          let t = both (beginsCommand (st k .step .next .stage) (st k .step .next .passes)) (leb commandBits (countIn (ahead k))) e′ in
-          of-command k small (at-command (st k .step .next) (t .0)) (leb-true commandBits (countIn (ahead k)) (t .1))
-      choose false e false e′ = of-one k small

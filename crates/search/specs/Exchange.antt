@@ -1,5 +1,5 @@
 -- Not from document 01: what the functions of `src/` below `search` do and ask. A reader of what a search does can skip it.
-use Prim.Native.Nat.{ℕ, zero, suc, _+_, _*_, _≤_}
+use Prim.Native.Nat.{ℕ, zero, suc, _+_, _-_, _*_, _≤_}
 use mathlib.Core.Path.{_≡_}
 use mathlib.Core.Bool.{Bool, true, false, not, cond, _&&_}
 use mathlib.Core.List.{List}
@@ -7,7 +7,7 @@ use lib.ListN.{length, take, replicate, set}
 use lib.Seq.{sets}
 use lib.Bits.{bitAnd}
 use lib.Dec.{eqb, ltb, leb}
-use Rattle.bits.specs.Bit.{bitOf}
+use Rattle.bits.specs.Bit.{bitOf, bitAt}
 use Rattle.bits.specs.Slots.{slotsWord, levelsIn, countIn}
 use Rattle.image.specs.Image.{countOf}
 use Rattle.image.specs.Refusal.{imageRefusal}
@@ -18,12 +18,13 @@ use Rattle.master.specs.declared.Stage.{Stage}
 use Rattle.master.specs.declared.Stage.the-variants.{Fresh, Reset, Command, FirstRead, SecondRead, Direction, Ended}
 use Rattle.master.specs.declared.Master.{Master}
 use Rattle.master.specs.declared.Step.{Step}
-use Rattle.master.specs.Master.{commandBits, codeBytes, mostPasses, reset, readSlot, withStage, nextOf, stepOf}
+use Rattle.master.specs.Master.{commandBits, codeBits, codeBytes, mostPasses, reset, readSlot, withStage, nextOf, stepOf}
 use Rattle.master.specs.Drive.{codeCompleted}
-use Rattle.master.specs.Bit.{readsBit, bitSteps}
+use Rattle.master.specs.Bit.{readsBit, bitSteps, readingOf, followed}
 use Rattle.bus.specs.declared.Event.{Event}
 use Rattle.bus.specs.declared.Event.the-variants as Event
 use Rattle.bus.specs.Bus.{eventOf, answerByte}
+use Rattle.bus.specs.Loops.{loneBit, loneLevels}
 use Rattle.discovery.specs.Words.{Bytes}
 use Rattle.search.specs.declared.Told.{Told}
 use Rattle.search.specs.Refusal.{traceRoom}
@@ -103,7 +104,23 @@ commandTold m ahead = record {
   stretch = slotsWord (bitAnd (levelsIn ahead) 0xF0) commandBits;
 }
 
--- which of the three
+-- the bits of one device that is alone at the bit that the master reads, to the last but one of its code: more slots than a word holds
+unfoldable pub toldCode : Master → ℕ → Bool
+toldCode m ahead = ltb (readingOf m) 53 && eqb (loneBit ahead) (readingOf m + 1)
+
+-- how many bits are left, but for the last
+unfoldable pub bitsLeft : Master → ℕ
+bitsLeft m = codeBits - 1 - readingOf m
+
+-- the events of j bits from `at` on, where bit b of `levels` is the level of the first read slot of bit b
+unfoldable pub codeTrace : List ℕ → ℕ → List ℕ → ℕ → ℕ → List ℕ
+codeTrace trace k levels at zero = trace
+codeTrace trace k levels at (suc j) = bitTrace (codeTrace trace k levels at j) (k + 3 * j) (answerByte (bitAt levels (at + j)))
+
+unfoldable pub codeTold : Master → List ℕ → Told
+codeTold m levels = record { step = record { answer = Answer.Event readSlot; next = followed m levels }; stretch = slotsWord 0 (3 * bitsLeft m) }
+
+-- which of the four
 unfoldable pub toldBit : Master → ℕ → Bool
 toldBit m ahead = readsBit m && bitKnown ahead
 
@@ -116,18 +133,21 @@ bitTaken m ahead = bitSteps m (bitOf (levelsIn ahead) 0) (bitOf (levelsIn ahead)
 abbrev pub levelTold : ℕ → Step → ℕ → Bool
 levelTold n step ahead = oneLevel (eventOf (eventIn (step .answer))) n ahead
 
-unfoldable pub toldOf : ℕ → Step → ℕ → Told
-toldOf n step ahead =
-    cond (toldBit (step .next) ahead) (bitTold (bitTaken (step .next) ahead) ahead)
-    (cond (toldCommand (step .next) ahead) (commandTold (step .next) ahead) (toldOne step (levelTold n step ahead)))
+unfoldable pub toldOf : List ℕ → Step → ℕ → Told
+toldOf image step ahead =
+    cond (toldCode (step .next) ahead) (codeTold (step .next) (loneLevels image ahead))
+    (cond (toldBit (step .next) ahead) (bitTold (bitTaken (step .next) ahead) ahead)
+    (cond (toldCommand (step .next) ahead) (commandTold (step .next) ahead) (toldOne step (levelTold (countOf image) step ahead))))
 
 -- the trace and the codes then; a code is completed only by one event alone
-unfoldable pub toldTrace : List ℕ → ℕ → Step → ℕ → List ℕ
-toldTrace trace k step ahead =
-    cond (toldBit (step .next) ahead) (bitTrace trace k (eventIn (bitTaken (step .next) ahead .answer)))
-    (cond (toldCommand (step .next) ahead) (commandTrace trace k commandBits) (set trace k (eventIn (step .answer))))
+unfoldable pub toldTrace : List ℕ → List ℕ → ℕ → Step → ℕ → List ℕ
+toldTrace image trace k step ahead =
+    cond (toldCode (step .next) ahead) (codeTrace trace k (loneLevels image ahead) (readingOf (step .next)) (bitsLeft (step .next)))
+    (cond (toldBit (step .next) ahead) (bitTrace trace k (eventIn (bitTaken (step .next) ahead .answer)))
+    (cond (toldCommand (step .next) ahead) (commandTrace trace k commandBits) (set trace k (eventIn (step .answer)))))
 
-unfoldable pub toldCodes : ℕ → List ℕ → Step → ℕ → List ℕ
-toldCodes n codes step ahead =
-    cond (toldBit (step .next) ahead) codes
-    (cond (toldCommand (step .next) ahead) codes (oneCodes codes (step .next) (levelTold n step ahead)))
+unfoldable pub toldCodes : List ℕ → List ℕ → Step → ℕ → List ℕ
+toldCodes image codes step ahead =
+    cond (toldCode (step .next) ahead) codes
+    (cond (toldBit (step .next) ahead) codes
+    (cond (toldCommand (step .next) ahead) codes (oneCodes codes (step .next) (levelTold (countOf image) step ahead))))

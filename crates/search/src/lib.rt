@@ -16,18 +16,19 @@ ghost use lib.ListN.{length, take, drop, set, getD};
 ghost use lib.Seq.{sets};
 ghost use Rattle.image.specs.Image.{countOf};
 ghost use Rattle.master.specs.Master.{codeBytes, fresh, nextOf, stepOf};
-ghost use Rattle.master.specs.Bit.{bitSteps};
+ghost use Rattle.master.specs.Bit.{bitSteps, readingOf};
 ghost use Rattle.master.specs.Drive.{codeCompleted, over};
 ghost use Rattle.bits.specs.Bit.{bitOf};
 ghost use Rattle.bits.specs.Slots.{levelsIn, countIn};
 ghost use Rattle.bus.specs.Bus.{eventOf, answerByte};
+ghost use Rattle.bus.specs.Loops.{loneLevels};
 ghost use Rattle.bus.specs.Run.{statesOf};
 ghost use Rattle.discovery.specs.Search.{searchOf};
 ghost use Rattle.discovery.specs.Searched.{Searched};
 ghost use Rattle.discovery.specs.Words.{Bytes, isReset, slotNext, resetsIn, slotsIn, passesIn};
 ghost use Rattle.search.specs.Refusal.{traceRoom, noSearchRoom, searchRefusal};
 ghost use Rattle.search.specs.Found.{foundIn, SearchLeaves, searchedOf};
-ghost use Rattle.search.specs.Exchange.{hasEvent, eventIn, Ready, oneLevel, toldOne, oneCodes, bitMask, bitKnown, bitTold, bitTrace, beginsCommand, commandTrace, commandMaster, commandTold, toldBit, toldCommand, toldOf, toldTrace, toldCodes};
+ghost use Rattle.search.specs.Exchange.{hasEvent, eventIn, Ready, oneLevel, toldOne, oneCodes, bitMask, bitKnown, bitTold, bitTrace, beginsCommand, commandTrace, commandMaster, commandTold, toldBit, toldCommand, toldCode, bitsLeft, codeTrace, codeTold, toldOf, toldTrace, toldCodes};
 
 // What a search gives back beside its buffers.
 pub struct Found {
@@ -64,6 +65,11 @@ const SEARCH_ROM: u8 = 0xF0;
 const COMMAND_BITS: u8 = 8;
 
 const COMMAND_LEVELS: u32 = 0xF0;
+
+// The last bit of a code, and the first of which the slots of the rest but that bit are no more than a word holds.
+const LAST_BIT: u8 = 63;
+
+const SHORT_REST: u8 = 53;
 
 // ---- why a search is refused
 
@@ -267,7 +273,7 @@ fn bit_mask(direction: u8) -> u32
 
 // Writes the events of a bit: two read slots and a direction.
 fn write_bit(trace: &mut [u8], sent: usize, direction: u8)
-    requires { ⌜ sent < 65536 ⌝ }
+    requires { ⌜ sent < 131072 ⌝ }
     ensures { λ _. ⌜ now (trace .exit) ≡ bitTrace (now (trace .entry)) sent direction ⌝ }
 {
     bits::put_byte(trace, sent, READ_SLOT);
@@ -363,7 +369,57 @@ fn tell_command(trace: &mut [u8], sent: usize, master: Master, ahead: u64) -> To
     Told { step, stretch }
 }
 
-// Whether a bit is told at once, or the search command.
+// Writes the events of so many bits from `at` on, of which each direction is the level of the first read slot.
+fn write_code(trace: &mut [u8], sent: usize, levels: [u8; 8], at: u8, count: u8)
+    requires { ⌜ sent < 65536 ⌝ }
+    ensures { λ _. ⌜ now (trace .exit) ≡ codeTrace (now (trace .entry)) sent levels at count ⌝ }
+{
+    let mut j: u8 = 0;
+    while j < count {
+        let level = bits::bit_at(&levels, wide(at) + wide(j));
+        write_bit(trace, sent + 3 * wide(j), answer_of(level));
+        j = j + 1;
+    }
+}
+
+// A stretch of the bits of one device, from the one that the master reads to the last but one.
+fn tell_bits(trace: &mut [u8], sent: usize, levels: [u8; 8], master: Master) -> Told
+    requires { ⌜ (sent < 65536) × (readingOf master < 53) ⌝ }
+    ensures { λ r. ⌜ (r ≡ codeTold master levels) × (now (trace .exit) ≡ codeTrace (now (trace .entry)) sent levels (readingOf master) (bitsLeft master)) ⌝ }
+{
+    let at = master.reading();
+    let count = LAST_BIT - at;
+    write_code(trace, sent, levels, at, count);
+    let next = master.follow(levels);
+    let stretch = bits::slots_word(0, 3 * count);
+    let step = Step {
+        answer: Answer::Event(READ_SLOT),
+        next,
+    };
+    Told { step, stretch }
+}
+
+// The same of the device that is alone on the line, by what it leaves the line at.
+fn tell_code(image: &[u8], trace: &mut [u8], sent: usize, master: Master, ahead: u64) -> Told
+    requires { ⌜ (sent < 65536) × (readingOf master < 53) ⌝ }
+    ensures { λ r. ⌜ (r ≡ codeTold master (loneLevels (now (image .entry)) ahead))
+        × (now (trace .exit) ≡ codeTrace (now (trace .entry)) sent (loneLevels (now (image .entry)) ahead) (readingOf master) (bitsLeft master)) ⌝ }
+{
+    let levels = bus::lone_levels(image, ahead);
+    tell_bits(trace, sent, levels, master)
+}
+
+// Whether the bits of a lone device are told at once, or one bit, or the search command.
+fn tells_code(master: Master, ahead: u64) -> bool
+    ensures { λ r. ⌜ r ≡ toldCode master ahead ⌝ }
+{
+    let at = master.reading();
+    if at < SHORT_REST {
+        return bus::lone_bit(ahead) == at + 1;
+    }
+    false
+}
+
 fn tells_bit(master: Master, ahead: u64) -> bool
     ensures { λ r. ⌜ r ≡ toldBit master ahead ⌝ }
 {
@@ -393,11 +449,14 @@ fn tell(
     ahead: u64,
 ) -> Told
     requires { ⌜ sent < 65536 ⌝ }
-    ensures { λ r. ⌜ (r ≡ toldOf (countOf (now (image .entry))) step ahead)
-        × (now (codes .exit) ≡ toldCodes (countOf (now (image .entry))) (now (codes .entry)) step ahead)
-        × (now (trace .exit) ≡ toldTrace (now (trace .entry)) sent step ahead) ⌝ }
+    ensures { λ r. ⌜ (r ≡ toldOf (now (image .entry)) step ahead)
+        × (now (codes .exit) ≡ toldCodes (now (image .entry)) (now (codes .entry)) step ahead)
+        × (now (trace .exit) ≡ toldTrace (now (image .entry)) (now (trace .entry)) sent step ahead) ⌝ }
 {
     let master = step.next;
+    if tells_code(master, ahead) {
+        return tell_code(image, trace, sent, master, ahead);
+    }
     if tells_bit(master, ahead) {
         return tell_bit(trace, sent, master, ahead);
     }

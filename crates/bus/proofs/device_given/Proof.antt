@@ -1,6 +1,6 @@
-use Rattle.bus.specs.Loops.{stateGiven}
 use mathlib.Core.Path.{sym, _∙_}
 use borrow.Author.Needs.{needs}
+use Rattle.bus.specs.Loops.{stateGiven}
 use Rattle.bus.proofs.device_given.Statement.{statement}
 use Rattle.bus.proofs.device_given.Tie as tie
 
@@ -10,14 +10,8 @@ event-of-requires c κs = search needs
 enum-told : tie.Need-enum-told
 enum-told c = search needs
 
-levels-in-requires : tie.Need-levels-in-requires
-levels-in-requires c κs = search needs
-
-count-in-requires : tie.Need-count-in-requires
-count-in-requires c κs = search needs
-
-steps-requires : tie.Need-steps-requires
-steps-requires c κs = search needs
+slots-given-requires : tie.Need-slots-given-requires
+slots-given-requires c κs = search needs
 
 enum-told-2 : tie.Need-enum-told-2
 enum-told-2 c = search needs
@@ -33,8 +27,7 @@ pulsed-requires c κs = search needs
 
 returns : tie.Need-returns
 unfolding stateGiven
-returns c =
-    rw (sym (c .before .before .before .before .before .event-of .ensures) ∙ c .before .before .before .enum-told .given .1, ← c .before .before .levels-in .ensures, ← c .before .count-in .ensures) (c .steps .ensures)
+returns c = rw (sym (c .before .before .before .event-of .ensures) ∙ c .before .enum-told .given .1) (c .slots-given .ensures)
 
 returns-2 : tie.Need-returns-2
 unfolding stateGiven
@@ -50,9 +43,7 @@ device-given-spec =
     (tie.spec
     event-of-requires
     enum-told
-    levels-in-requires
-    count-in-requires
-    steps-requires
+    slots-given-requires
     enum-told-2
     at-reset-requires
     enum-told-3

@@ -67,7 +67,8 @@ use Rattle.search.proofs.Told.Laws as T′
 use Rattle.search.proofs.Steps.{Q, machP, tellsP, spelledP, typedP, U, machT, tellsT, spelledT, typedT}
 use Rattle.search.proofs.Loop.{State, state, exchanges, lines-length, trace-length, codes-length, goes, stops, codes-done, trace-done, lines-done, events-few}
 use Rattle.search.proofs.Loop as Loop
-use Rattle.search.proofs.Turns.{aheadIn, Turn, turn}
+use Rattle.search.proofs.Turns.{aheadIn, Turn}
+use Rattle.search.proofs.Turning.{turn}
 use Rattle.search.proofs.first_step as first-step
 use Rattle.search.proofs.first_step.Symbol as first-step-def
 use Rattle.search.proofs.first_step.Symbol.{name as #search·first-step}
@@ -162,7 +163,7 @@ module _ {M : Type 1} (𝓤 : URA M) (H : Heap 𝓤) (A : Atoms 𝓤) (W : Given
   ah k = aheadIn im (st k .lines)
 
   abbrev td : ℕ → Told
-  td k = toldOf (countOf im) (st k .step) (ah k)
+  td k = toldOf im (st k .step) (ah k)
 
   abbrev str : ℕ → ℕ
   str k = td k .stretch
@@ -171,7 +172,7 @@ module _ {M : Type 1} (𝓤 : URA M) (H : Heap 𝓤) (A : Atoms 𝓤) (W : Given
   abbrev on : ℕ → ℕ
   on k = k + countIn (str k)
 
-  turned : (k : ℕ) → k < n → Turn im codes trace ys ready k (td k) (toldTrace (st k .trace) k (st k .step) (ah k)) (toldCodes (countOf im) (st k .codes) (st k .step) (ah k))
+  turned : (k : ℕ) → k < n → Turn im codes trace ys ready k (td k) (toldTrace im (st k .trace) k (st k .step) (ah k)) (toldCodes im (st k .codes) (st k .step) (ah k))
   turned k small = turn im codes trace ys ready k small
 
   -- the image, and the other slices, each under a name δ at a list l; their machine values
@@ -534,10 +535,10 @@ module _ {M : Type 1} (𝓤 : URA M) (H : Heap 𝓤) (A : Atoms 𝓤) (W : Given
         use1 W (later (some (λ (r : Told). ((‵ (flft κ q) ⊛ ‵ (flft (ν ∷ []) fullShare) ⊛ ‵ (flft (ν′ ∷ []) fullShare) ⊛ ‵ ftrue) ⊛ ‵ (U .own r (w ∷ []))) ⊛ raw (ensured 𝓤 H A tell.ended (tell.clauses 𝓤 H A mem run) (κ, (ν ∷ [], (ν′ ∷ [], tt))) (tell-args k δ δ′) tt r)))) (id⊢ 𝓤 _) $
         await ! tt $ pick ! (λ r. split ! $
         move ! (1 ∷ []) $
-        use1 W (some (λ (ls : Unit {0} × (List ℕ × (List ℕ × (Unit {0} × (Unit {0} × (Unit {0} × Unit {0})))))). ‵ (lasts tell.ended (κ, (ν ∷ [], (ν′ ∷ [], tt))) (tell-args k δ δ′) ls) ⊛ raw (fact 𝓤 ((r ≡ td k) × (ls .1 .0 ≡ toldCodes (countOf im) (st k .codes) (st k .step) (ah k)) × (ls .1 .1 .0 ≡ toldTrace (st k .trace) k (st k .step) (ah k)))))) (id⊢ 𝓤 _) $
+        use1 W (some (λ (ls : Unit {0} × (List ℕ × (List ℕ × (Unit {0} × (Unit {0} × (Unit {0} × Unit {0})))))). ‵ (lasts tell.ended (κ, (ν ∷ [], (ν′ ∷ [], tt))) (tell-args k δ δ′) ls) ⊛ raw (fact 𝓤 ((r ≡ td k) × (ls .1 .0 ≡ toldCodes im (st k .codes) (st k .step) (ah k)) × (ls .1 .1 .0 ≡ toldTrace im (st k .trace) k (st k .step) (ah k)))))) (id⊢ 𝓤 _) $
         pick ! (λ ls. split ! $
         move ! (1 ∷ []) $
-        heard ! ((r ≡ td k) × (ls .1 .0 ≡ toldCodes (countOf im) (st k .codes) (st k .step) (ah k)) × (ls .1 .1 .0 ≡ toldTrace (st k .trace) k (st k .step) (ah k))) (λ said.
+        heard ! ((r ≡ td k) × (ls .1 .0 ≡ toldCodes im (st k .codes) (st k .step) (ah k)) × (ls .1 .1 .0 ≡ toldTrace im (st k .trace) k (st k .step) (ah k))) (λ said.
         fsplit ! $
         move ! (1 ∷ []) $
         fsplit ! $
