@@ -1,7 +1,7 @@
 -- Laws that the proofs of this crate cite. Assumes nothing.
 use Prim.Native.Nat.{ℕ, zero, suc, _+_, _-_, _*_, _^_, _<_, _≤_}
 use mathlib.Core.Path.{_≡_, refl, sym, ap, subst, _∙_}
-use mathlib.Core.Bool.{Bool, true, false, cond, _&&_, _||_, or-true, true≢false}
+use mathlib.Core.Bool.{Bool, true, false, cond, _&&_, _||_, or-assoc, or-false, true≢false}
 use mathlib.Core.List.{List, [], _∷_, _++_}
 use native.Mathlib.Omega.{arith}
 use native.Mathlib.Nat.{not-suc-le-zero, le-of-suc-le-suc, two-pow-succ}
@@ -54,20 +54,17 @@ inside-of image i place e = subst (λ (p : Place). Inside p (length image)) (sym
 
 -- ---- a test at some byte of a trace
 
-pub some-byte : (p : ℕ → Bool) (trace : List ℕ) (k : ℕ) → k < length trace → p (getD trace k 0) ≡ true → someByte p trace ≡ true
+-- found so far or here, or after: it is found in the trace
+pub byte-more : (p : ℕ → Bool) (trace : List ℕ) (k : ℕ) (found : Bool) → k < length trace → (found || someByte p (drop k trace)) ≡ someByte p trace
+    → ((found || p (getD trace k 0)) || someByte p (drop (k + 1) trace)) ≡ someByte p trace
 unfolding someByte
-some-byte p [] k h e = absurd (not-suc-le-zero h)
-some-byte p (byte ∷ trace) zero h e = rw e
-some-byte p (byte ∷ trace) (suc k) h e = rw (some-byte p trace k (le-of-suc-le-suc h) e) (or-true (p byte))
+byte-more p trace k found h inv =
+    let next : someByte p (drop k trace) ≡ (p (getD trace k 0) || someByte p (drop (k + 1) trace)) = rw add-one (ap (someByte p) (drop-cons trace k 0 h)) in
+    or-assoc found (p (getD trace k 0)) (someByte p (drop (k + 1) trace)) ∙ ap (λ (b : Bool). found || b) (sym next) ∙ inv
 
--- none so far, and not here either: it is decided by what comes after
-pub none-byte : (p : ℕ → Bool) (trace : List ℕ) (k : ℕ) → k < length trace → p (getD trace k 0) ≡ false → someByte p (drop k trace) ≡ someByte p trace → someByte p (drop (k + 1) trace) ≡ someByte p trace
+pub byte-end : (p : ℕ → Bool) (trace : List ℕ) (k : ℕ) (found : Bool) → length trace ≤ k → (found || someByte p (drop k trace)) ≡ someByte p trace → found ≡ someByte p trace
 unfolding someByte
-none-byte p trace k h e inv = rw add-one (rw (drop-cons trace k 0 h, e) at inv)
-
-pub no-byte : (p : ℕ → Bool) (trace : List ℕ) (k : ℕ) → length trace ≤ k → someByte p (drop k trace) ≡ someByte p trace → false ≡ someByte p trace
-unfolding someByte
-no-byte p trace k h inv = rw (drop-of-length-le trace h) at inv
+byte-end p trace k found h inv = sym (or-false found) ∙ ap (λ (l : List ℕ). found || someByte p l) (sym (drop-of-length-le trace h)) ∙ inv
 
 -- ---- causes in order
 

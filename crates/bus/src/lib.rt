@@ -9,7 +9,7 @@ use line::SearchSlot;
 use line::Stage;
 ghost use mathlib.Core.Path.{_≡_};
 ghost use Prim.Native.Nat.{_+_, _<_, _≤_};
-ghost use mathlib.Core.Bool.{not, _&&_};
+ghost use mathlib.Core.Bool.{not, _&&_, _||_};
 ghost use lib.ListN.{length};
 ghost use lib.Dec.{eqb, ltb};
 ghost use Rattle.bits.specs.Bit.{bitOf};
@@ -480,18 +480,23 @@ fn put_levels(answers: &mut [u8], k: usize, stretch: u64)
 
 // ---- why a run is refused
 
-// A byte of the trace is over 3.
+fn either(a: bool, b: bool) -> bool
+    ensures { λ r. ⌜ r ≡ (a || b) ⌝ }
+{
+    if a { true } else { b }
+}
+
+// A byte of the trace is over 3. Every byte is looked at: a loop that may end early would take them one by one.
 fn has_unknown_event(trace: &[u8]) -> bool
     ensures { λ r. ⌜ r ≡ someByte (λ byte. ltb 3 byte) (now (trace .entry)) ⌝ }
 {
+    let mut found = false;
     let mut k = 0;
     while k < trace.len() {
-        if 3 < trace[k] {
-            return true;
-        }
+        found = either(found, 3 < trace[k]);
         k += 1;
     }
-    false
+    found
 }
 
 // Cause 5.
@@ -508,14 +513,13 @@ fn is_bad_trace(trace: &[u8]) -> bool
 fn has_pulse(trace: &[u8]) -> bool
     ensures { λ r. ⌜ r ≡ someByte (λ byte. eqb byte 3) (now (trace .entry)) ⌝ }
 {
+    let mut found = false;
     let mut k = 0;
     while k < trace.len() {
-        if trace[k] == 3 {
-            return true;
-        }
+        found = either(found, trace[k] == 3);
         k += 1;
     }
-    false
+    found
 }
 
 fn is_eprom(kind: Kind) -> bool

@@ -1,29 +1,29 @@
-use Rattle.bus.proofs.Laws.{some-byte, none-byte, no-byte}
-use Rattle.bus.specs.Refusal.{someByte}
-use borrow.Author.Tests.{eq-eqb, ne-eqb}
-use borrow.Author.Needs.{needs}
-use lib.Dec.{eqb}
-use lib.ListN.{length, drop}
-use native.Mathlib.Omega.{arith}
 use Prim.Native.Nat.{_≤_, _-_}
-use mathlib.Core.Path.{_≡_, refl, sym}
+use mathlib.Core.Path.{_≡_, refl, _∙_}
+use mathlib.Core.Bool.{_||_}
+use native.Mathlib.Omega.{arith}
+use lib.ListN.{length, drop}
+use lib.Dec.{eqb}
+use borrow.Author.Needs.{needs}
+use Rattle.bus.specs.Refusal.{someByte}
+use Rattle.bus.proofs.Laws.{byte-more, byte-end}
 use Rattle.bus.proofs.has_pulse.Statement.{statement}
 use Rattle.bus.proofs.has_pulse.Tie as tie
 
 abbrev Inv-loop : tie.InvT-loop
-Inv-loop trace k₀ k = (k ≤ length trace) × (someByte (λ byte. eqb byte 3) (drop k trace) ≡ someByte (λ byte. eqb byte 3) trace)
+Inv-loop trace found₀ k₀ found k = (k ≤ length trace) × ((found || someByte (λ byte. eqb byte 3) (drop k trace)) ≡ someByte (λ byte. eqb byte 3) trace)
 
 abbrev μ-loop : tie.MeasureT-loop
-μ-loop trace k₀ k = length trace - k
+μ-loop trace found₀ k₀ found k = length trace - k
 
 loop-holds : tie.Need-loop-holds Inv-loop μ-loop
 loop-holds c = (omega arith, refl)
 
-shared-slice-read-if1 : tie.Need-shared-slice-read-if1 Inv-loop μ-loop
-shared-slice-read-if1 c = search needs
+shared-slice-read-either : tie.Need-shared-slice-read-either Inv-loop μ-loop
+shared-slice-read-either c = search needs
 
-returns : tie.Need-returns Inv-loop μ-loop
-returns c = sym (some-byte (λ byte. eqb byte 3) _ _ (c .before .before .loop-test .taken) (eq-eqb _ _ (c .if1 .taken)))
+either-requires : tie.Need-either-requires Inv-loop μ-loop
+either-requires c κs = search needs
 
 add-k : tie.Need-add-k Inv-loop μ-loop
 add-k c = search needs
@@ -32,10 +32,10 @@ loop-less : tie.Need-loop-less Inv-loop μ-loop
 loop-less c = search needs
 
 loop-again : tie.Need-loop-again Inv-loop μ-loop
-loop-again c = (omega arith, none-byte (λ byte. eqb byte 3) _ _ (c .before .before .loop-test .taken) (ne-eqb _ _ (c .if1 .left)) (c .before .before .before .loop .inv .1))
+loop-again c = (omega arith, rw (c .either .ensures) (byte-more (λ byte. eqb byte 3) (c .before .before .before .before .before .args .trace .now) (c .before .before .before .loop .k) (c .before .before .before .loop .found) (c .before .before .loop-test .taken) (c .before .before .before .loop .inv .1)))
 
-returns-2 : tie.Need-returns-2 Inv-loop μ-loop
-returns-2 c = no-byte (λ byte. eqb byte 3) _ _ (c .loop-test .left) (c .before .loop .inv .1)
+returns : tie.Need-returns Inv-loop μ-loop
+returns c = byte-end (λ byte. eqb byte 3) _ _ _ (c .loop-test .left) (c .before .loop .inv .1)
 
 pub has-pulse-spec : {M : Type 1} → statement M
 has-pulse-spec =
@@ -44,9 +44,9 @@ has-pulse-spec =
     Inv-loop
     μ-loop
     loop-holds
-    shared-slice-read-if1
-    returns
+    shared-slice-read-either
+    either-requires
     add-k
     loop-less
     loop-again
-    returns-2)
+    returns)
