@@ -6,6 +6,11 @@ use mathlib.Core.List.{List}
 use lib.ListN.{getD, set}
 use lib.Dec.{eqb, leb}
 
+-- a level as a byte
+unfoldable pub levelByte : Bool → ℕ
+levelByte false = 0
+levelByte true = 1
+
 -- bit i of the byte b: the one of place value 2 ^ i
 unfoldable pub bitOf : ℕ → ℕ → Bool
 bitOf b i = eqb (b / 2 ^ i % 2) 1

@@ -12,13 +12,13 @@ use Rattle.line.specs.declared.RomStage.the-variants.{Waiting, Command, Read, M
 use Rattle.line.specs.declared.Stage.{Stage}
 use Rattle.line.specs.declared.Stage.the-variants.{Rom, Memory}
 use Rattle.device.specs.declared.LineState.{LineState}
-use Rattle.device.specs.Device.{stateOf, waitingState}
+use Rattle.device.specs.Device.{lineState, waitingState}
 use Rattle.device.specs.Through.{Left, stepsLeave}
 use Rattle.device.proofs.Several.{slots-waiting, steps-waiting}
 use Rattle.bus.specs.declared.Event.{Event}
 use Rattle.bus.specs.declared.Event.the-variants.{Slot}
 use Rattle.bus.specs.declared.Place.{Place}
-use Rattle.bus.specs.Bus.{Device, deviceOf, eventOf}
+use Rattle.bus.specs.Bus.{Device, deviceWith, eventOf}
 use Rattle.bus.specs.Loops.{isWaiting, waitsIn, idleIn, placeIn, deviceAt, deviceIn, withBody, afterSlots, afterStretch, given, turnedState, turnedImage, stageOn, romOn, slotsGiven, stateGiven, stateIn}
 use Rattle.bits.specs.Slots.{levelsIn, countIn}
 use Rattle.bus.proofs.Laws.{Inside, place-inside}
@@ -48,7 +48,7 @@ module _ (byte : ℕ) (state : LineState) (idle : idleIn byte state ≡ true) wh
   unfolding idleIn
   unfolded =
       let two = both (ltb byte 2) (waitsIn (state .stage)) idle in
-      (ltb-true byte 2 (two .0), ap stateOf (waits-is (state .stage) (two .1)))
+      (ltb-true byte 2 (two .0), ap lineState (waits-is (state .stage) (two .1)))
 
   module _ (image : List ℕ) (i : ℕ) where
     abbrev d : Device
@@ -71,7 +71,7 @@ module _ (byte : ℕ) (state : LineState) (idle : idleIn byte state ≡ true) wh
     unfolding afterStretch afterSlots deviceIn deviceAt
     idle-given stretch = slot-is (λ (v : Event). afterStretch v (levelsIn stretch) (countIn stretch) d ≡ d) byte (unfolded .0)
         (λ sent. ap (λ (s : LineState). afterStretch (Slot sent) (levelsIn stretch) (countIn stretch) (deviceIn image i s)) (unfolded .1)
-        ∙ ap (λ (left : Left). deviceOf (d .kind) (left .body) (left .state)) (slots-waiting (d .kind) (d .body) (levelsIn stretch) (countIn stretch))
+        ∙ ap (λ (left : Left). deviceWith (d .kind) (left .body) (left .state)) (slots-waiting (d .kind) (d .body) (levelsIn stretch) (countIn stretch))
         ∙ sym (ap (deviceIn image i) (unfolded .1)))
 
     pub idle-turned : (stretch : ℕ) → state ≡ turnedState image i state byte stretch

@@ -13,16 +13,16 @@ use Rattle.image.proofs.Accepted.{Known, accepted-known, known-accepted, code-l
 use Rattle.device.specs.declared.LineState.{LineState}
 use Rattle.bus.specs.Bus.{Device, runTrace}
 use Rattle.bus.specs.Refusal.{runRefusal}
-use Rattle.bus.specs.Run.{waitingDevices, headerOf, bodiesOf, leftByRun, runAt, runOf}
+use Rattle.bus.specs.Run.{waitingDevices, tableOfContents, bodiesOf, leftByRun, runAt, runOf}
 use Rattle.bus.proofs.Runs.{run-same, same-length}
-use Rattle.bus.proofs.Shown.{Stand, stand-same, nobody, packed-bodies, imageOf, header-length, header-at, count-kept, family-kept, kind-kept, offset-kept, entered, start-is, image-split, waiting-all, waiting-stands}
+use Rattle.bus.proofs.Shown.{Stand, stand-same, nobody, packed-bodies, imageOf, contents-length, contents-at, count-kept, family-kept, kind-kept, offset-kept, entered, start-is, image-split, waiting-all, waiting-stands}
 
 -- what holds of an image after a run
 pub record Kept (image after : List ℕ) : Type 0 where
   pub accepted : imageRefusal after ≡ 0
   pub size : length after ≡ length image
   pub count : countOf after ≡ countOf image
-  pub header : headerOf after ≡ headerOf image
+  pub contents : tableOfContents after ≡ tableOfContents image
   pub code : (i : ℕ) → i < countOf image → codeAt after i ≡ codeAt image i
 
 module _ (image : List ℕ) (known : Known image) where
@@ -35,7 +35,7 @@ module _ (image : List ℕ) (known : Known image) where
 
     code-is : codeAt (imageOf image known (xs ++ d ∷ ys)) (length xs) ≡ codeAt image (length xs)
     code-is =
-        let before = headerOf image ++ bodiesOf xs in
+        let before = tableOfContents image ++ bodiesOf xs in
         ap (λ (m : ℕ). take codeLength (drop m (imageOf image known (xs ++ d ∷ ys)))) (start-is image known xs d ys stand all)
         ∙ ap (λ (l : List ℕ). take codeLength (drop (length before) l)) (image-split image known xs d ys stand all)
         ∙ ap (take codeLength) (drop-at before (d .body ++ bodiesOf ys) (length before) refl)
@@ -70,17 +70,17 @@ module _ (image : List ℕ) (known : Known image) where
     size-kept =
         let e : 0 + length ds ≡ countOf image = omega (arith, all) in
         let last : packedAt image (countOf image) ≡ packedAt image 0 + length (bodiesOf ds) = ap (packedAt image) (sym e) ∙ packed-bodies image 0 ds [] (subst (Stand image 0) (sym (append-nil ds)) stand) in
-        omega (arith, last, length-append (headerOf image) (bodiesOf ds), header-length image known)
+        omega (arith, last, length-append (tableOfContents image) (bodiesOf ds), contents-length image known)
 
     abbrev below : (i : ℕ) → i < countOf P → i < countOf image
     below i h = subst (λ (n : ℕ). i < n) (count-kept image known ds) h
 
     known-kept : Known P
     known-kept = record {
-      entries = omega (arith, count-kept image known ds, length-append (headerOf image) (bodiesOf ds), header-length image known);
+      entries = omega (arith, count-kept image known ds, length-append (tableOfContents image) (bodiesOf ds), contents-length image known);
       few = omega (arith, count-kept image known ds, known .few);
-      edition = header-at image known ds 1 (omega arith) ∙ known .edition;
-      second = λ i h. header-at image known ds (2 + 4 * i + 1) (omega (arith, below i h)) ∙ known .second i (below i h);
+      edition = contents-at image known ds 1 (omega arith) ∙ known .edition;
+      second = λ i h. contents-at image known ds (2 + 4 * i + 1) (omega (arith, below i h)) ∙ known .second i (below i h);
       kind = λ i h. ap unknown (kind-kept image known ds i (below i h)) ∙ known .kind i (below i h);
       placed = λ i h. offset-kept image known ds i (below i h) ∙ known .placed i (below i h) ∙ sym (packed-kept i (omega (arith, below i h)));
       whole = size-kept ∙ sym (packed-kept (countOf image) (omega arith)) ∙ ap (packedAt P) (sym (count-kept image known ds));
@@ -94,7 +94,7 @@ module _ (image : List ℕ) (known : Known image) where
       accepted = known-accepted P known-kept;
       size = size-kept ∙ sym (known .whole);
       count = count-kept image known ds;
-      header = ap (λ (n : ℕ). take (2 + 4 * n) P) (count-kept image known ds) ∙ take-at (headerOf image) (bodiesOf ds) (2 + 4 * countOf image) (header-length image known);
+      contents = ap (λ (n : ℕ). take (2 + 4 * n) P) (count-kept image known ds) ∙ take-at (tableOfContents image) (bodiesOf ds) (2 + 4 * countOf image) (contents-length image known);
       code = code-kept;
     }
 
@@ -106,7 +106,7 @@ run-kept-at zero trace image answers lines e =
     let known = accepted-known image e in
     let same = run-same trace (waitingDevices image) in
     image-kept image known (runTrace trace (waitingDevices image) .devices) (stand-same image 0 same (waiting-stands image known)) (same-length same ∙ waiting-all image known)
-run-kept-at (suc number) trace image answers lines e = record { accepted = e; size = refl; count = refl; header = refl; code = λ i h. refl }
+run-kept-at (suc number) trace image answers lines e = record { accepted = e; size = refl; count = refl; contents = refl; code = λ i h. refl }
 
 -- whether it is refused or not
 pub run-kept : (trace image answers : List ℕ) (lines : List LineState) → imageRefusal image ≡ 0 → Kept image (runOf image trace answers lines .image)

@@ -4,9 +4,9 @@ use mathlib.Core.Path.{_≡_, refl, sym, ap, subst, _∙_}
 use mathlib.Core.Bool.{Bool, true, false, cond, _&&_, _||_, or-assoc, or-false, true≢false}
 use mathlib.Core.List.{List, [], _∷_, _++_}
 use native.Mathlib.Omega.{arith}
-use native.Mathlib.Nat.{not-suc-le-zero, le-of-suc-le-suc, two-pow-succ}
+use native.Mathlib.Nat.{two-pow-succ}
 use package.mir.Val.{boolByte}
-use Rattle.bits.specs.Bit.{bitOf}
+use Rattle.bits.specs.Bit.{bitOf, levelByte}
 use Rattle.bits.specs.Slots.{levelsIn, countIn, smaller, bothSlots}
 use Rattle.device.specs.Through.{knownAt}
 use native.Mathlib.Numerals.{add-one}
@@ -28,7 +28,7 @@ use Rattle.line.specs.declared.Stage.the-variants.{Rom, Memory}
 use Rattle.device.specs.declared.LineState.{LineState}
 use Rattle.bus.specs.Refusal.{someByte, badTrace, badPulse, noRunRoom, runCauses, runRefusal}
 use Rattle.bus.specs.declared.Place.{Place}
-use Rattle.bus.specs.Bus.{eventOf, answerByte}
+use Rattle.bus.specs.Bus.{eventOf}
 use Rattle.bus.specs.Loops.{placeIn, deviceAt, deviceIn, withBody, waitsIn, lineAt, servedOf, deviceAhead, ones, bitMark, searchMark, romMark, markOf, aheadWith, aheads, masterLevel, slotAt, slotsFrom, slotLevels, given, putLevels, turnedImage, BusState, busState, turnAt, turns, filled, RunState, Reached, stretchAt, stretches, events}
 use Rattle.bus.proofs.Runs.{stretch-same}
 
@@ -229,8 +229,8 @@ events-sized trace n m s = stretches-sized trace n m (record { next = 0; left = 
 -- ---- a stretch
 
 -- a level as a byte
-pub level-byte : (level : Bool) → boolByte level ≡ answerByte level
-unfolding answerByte
+pub level-byte : (level : Bool) → boolByte level ≡ levelByte level
+unfolding levelByte
 level-byte true = refl
 level-byte false = refl
 

@@ -20,8 +20,8 @@ use Rattle.device.specs.declared.LineState.{LineState}
 use Rattle.bits.specs.Slots.{slotsWord, levelsIn, countIn}
 use Rattle.device.specs.Device.{waitingState}
 use Rattle.bus.specs.declared.Place.{Place}
-use Rattle.bus.specs.Bus.{Device, deviceOf, eventOf, Run, runTrace}
-use Rattle.bus.specs.Run.{devicesFrom, waitingDevices, headerOf, bodiesOf, statesOf, runOutcome, leftByRun, runAt, runOf, RunOutcome, RunLeaves}
+use Rattle.bus.specs.Bus.{Device, deviceWith, eventOf, Run, runTrace}
+use Rattle.bus.specs.Run.{devicesFrom, waitingDevices, tableOfContents, bodiesOf, statesOf, runOutcome, leftByRun, runAt, runOf, RunOutcome, RunLeaves}
 use Rattle.bus.specs.Refusal.{someByte, badTrace, badPulse, runRefusal}
 use Rattle.bus.specs.Loops.{placeIn, deviceAt, deviceIn, withBody, servedOf, lineAt, ones, aheadWith, aheads, afterStretch, given, stretchFrom, putLevels, turnedState, turnedImage, BusState, busState, turnAt, turns, filled, RunState, runState, Reached, stretchAt, stretches, events}
 use Rattle.bus.proofs.Laws.{admitted, not-refused}
@@ -86,30 +86,30 @@ whole a b h f = choose (ltb a b) refl
 
 -- what stands past the end of a list of devices, which nothing reads
 abbrev pub nobody : Device
-nobody = deviceOf Unknown [] waitingState
+nobody = deviceWith Unknown [] waitingState
 
 module _ (image : List ℕ) (known : Known image) where
-  -- the image of devices: its header is this image's
+  -- the image of devices: its table of contents is this image's
   abbrev pub imageOf : List Device → List ℕ
-  imageOf ds = headerOf image ++ bodiesOf ds
+  imageOf ds = tableOfContents image ++ bodiesOf ds
 
-  pub header-length : length (headerOf image) ≡ 2 + 4 * countOf image
-  header-length = length-take-le (2 + 4 * countOf image) image (known .entries)
+  pub contents-length : length (tableOfContents image) ≡ 2 + 4 * countOf image
+  contents-length = length-take-le (2 + 4 * countOf image) image (known .entries)
 
-  pub header-at : (ds : List Device) (j : ℕ) → j < 2 + 4 * countOf image → getD (imageOf ds) j 0 ≡ getD image j 0
-  header-at ds j h = List·getD-append (headerOf image) (bodiesOf ds) 0 j (rw header-length h) ∙ getD-take (2 + 4 * countOf image) image j 0 h
+  pub contents-at : (ds : List Device) (j : ℕ) → j < 2 + 4 * countOf image → getD (imageOf ds) j 0 ≡ getD image j 0
+  contents-at ds j h = List·getD-append (tableOfContents image) (bodiesOf ds) 0 j (rw contents-length h) ∙ getD-take (2 + 4 * countOf image) image j 0 h
 
   pub count-kept : (ds : List Device) → countOf (imageOf ds) ≡ countOf image
-  count-kept ds = header-at ds 0 (omega arith)
+  count-kept ds = contents-at ds 0 (omega arith)
 
   pub family-kept : (ds : List Device) (i : ℕ) → i < countOf image → familyAt (imageOf ds) i ≡ familyAt image i
-  family-kept ds i h = header-at ds (2 + 4 * i) (omega arith)
+  family-kept ds i h = contents-at ds (2 + 4 * i) (omega arith)
 
   pub kind-kept : (ds : List Device) (i : ℕ) → i < countOf image → kindAt (imageOf ds) i ≡ kindAt image i
   kind-kept ds i h = ap kindOf (family-kept ds i h)
 
   pub offset-kept : (ds : List Device) (i : ℕ) → i < countOf image → offsetAt (imageOf ds) i ≡ offsetAt image i
-  offset-kept ds i h = omega (arith, header-at ds (2 + 4 * i + 2) (omega arith), header-at ds (2 + 4 * i + 3) (omega arith))
+  offset-kept ds i h = omega (arith, contents-at ds (2 + 4 * i + 2) (omega arith), contents-at ds (2 + 4 * i + 3) (omega arith))
 
   -- ---- one device among the others
   module _ (xs : List Device) (d : Device) (ys : List Device) (stand : Stand image 0 (xs ++ d ∷ ys)) (all : length (xs ++ d ∷ ys) ≡ countOf image) where
@@ -118,7 +118,7 @@ module _ (image : List ℕ) (known : Known image) where
 
     -- what lies before its body
     abbrev before : List ℕ
-    before = headerOf image ++ bodiesOf xs
+    before = tableOfContents image ++ bodiesOf xs
 
     within : length xs < countOf image
     within = omega (arith, all, length-append xs (d ∷ ys))
@@ -128,7 +128,7 @@ module _ (image : List ℕ) (known : Known image) where
 
     pub image-split : P ≡ before ++ (d .body ++ bodiesOf ys)
     unfolding bodiesOf
-    image-split = ap (λ (l : List ℕ). headerOf image ++ l) (bodies-append xs (d ∷ ys)) ∙ sym (append-assoc (headerOf image) (bodiesOf xs) (d .body ++ bodiesOf ys))
+    image-split = ap (λ (l : List ℕ). tableOfContents image ++ l) (bodies-append xs (d ∷ ys)) ∙ sym (append-assoc (tableOfContents image) (bodiesOf xs) (d .body ++ bodiesOf ys))
 
     pub start-is : offsetAt P (length xs) ≡ length before
     unfolding packedAt
@@ -136,7 +136,7 @@ module _ (image : List ℕ) (known : Known image) where
         let z : length xs ≡ 0 + length xs = omega arith in
         let e : packedAt image (length xs) ≡ packedAt image 0 + length (bodiesOf xs) = ap (packedAt image) z ∙ packed-bodies image 0 xs (d ∷ ys) stand in
         offset-kept (xs ++ d ∷ ys) (length xs) within ∙ known .placed (length xs) within ∙ e
-        ∙ omega (arith, length-append (headerOf image) (bodiesOf xs), header-length)
+        ∙ omega (arith, length-append (tableOfContents image) (bodiesOf xs), contents-length)
 
     kind-is : kindAt P (length xs) ≡ d .kind
     kind-is = kind-kept (xs ++ d ∷ ys) (length xs) within ∙ sym (entered .kind)
@@ -165,7 +165,7 @@ module _ (image : List ℕ) (known : Known image) where
 
     pub device-is : deviceIn P (length xs) (d .state) ≡ d
     unfolding deviceIn deviceAt
-    device-is = ap (λ (p : Place). deviceAt P p (d .state)) place-is ∙ ap (λ (b : List ℕ). deviceOf (d .kind) b (d .state)) body-is
+    device-is = ap (λ (p : Place). deviceAt P p (d .state)) place-is ∙ ap (λ (b : List ℕ). deviceWith (d .kind) b (d .state)) body-is
 
     -- another body in its place
     pub body-put : (e : Device) → withBody P (placeIn P (length xs)) (e .body) ≡ imageOf (xs ++ e ∷ ys)
@@ -175,8 +175,8 @@ module _ (image : List ℕ) (known : Known image) where
         ∙ ap (λ (l : List ℕ). take (length before) l ++ (e .body ++ drop (length before + length (d .body)) l)) image-split
         ∙ ap (λ (l : List ℕ). l ++ (e .body ++ drop (length before + length (d .body)) (before ++ (d .body ++ bodiesOf ys)))) (take-at before (d .body ++ bodiesOf ys) (length before) refl)
         ∙ ap (λ (l : List ℕ). before ++ (e .body ++ l)) (drop-append-add before (d .body ++ bodiesOf ys) (length (d .body)) ∙ drop-at (d .body) (bodiesOf ys) (length (d .body)) refl)
-        ∙ append-assoc (headerOf image) (bodiesOf xs) (e .body ++ bodiesOf ys)
-        ∙ ap (λ (l : List ℕ). headerOf image ++ l) (sym (bodies-append xs (e ∷ ys)))
+        ∙ append-assoc (tableOfContents image) (bodiesOf xs) (e .body ++ bodiesOf ys)
+        ∙ ap (λ (l : List ℕ). tableOfContents image ++ l) (sym (bodies-append xs (e ∷ ys)))
 
   -- ---- all devices, with what stands behind their line states
   module _ (tail : List LineState) where
@@ -395,7 +395,7 @@ module _ (image : List ℕ) (known : Known image) where
   devices-states i [] = refl
   devices-states i (state ∷ states) = ap (λ (l : List LineState). state ∷ l) (devices-states (suc i) states)
 
-  -- their bodies are what follows the header
+  -- their bodies are what follows the table of contents
   devices-bodies : (i : ℕ) (states : List LineState) → i + length states ≡ countOf image → bodiesOf (devicesFrom image i states) ≡ drop (packedAt image i) image
   unfolding devicesFrom bodiesOf
   devices-bodies i [] e =
@@ -419,7 +419,7 @@ module _ (image : List ℕ) (known : Known image) where
   pub waiting-image : imageOf (waitingDevices image) ≡ image
   unfolding waitingDevices packedAt
   waiting-image =
-      ap (λ (l : List ℕ). headerOf image ++ l) (devices-bodies 0 (replicate (countOf image) waitingState) (omega (arith, length-replicate (countOf image) waitingState)))
+      ap (λ (l : List ℕ). tableOfContents image ++ l) (devices-bodies 0 (replicate (countOf image) waitingState) (omega (arith, length-replicate (countOf image) waitingState)))
       ∙ take-append-drop (2 + 4 * countOf image) image
 
   pub waiting-states : statesOf (waitingDevices image) ≡ replicate (countOf image) waitingState
@@ -454,7 +454,7 @@ run-shown trace image answers lines e =
     let ds = waitingDevices image in
     let served : servedOf image (length lines) ≡ n = rw (le-ltb (length lines) n (has .lines-room)) in
     let began : filled n waitingState lines ≡ statesOf ds ++ tail = filled-is n waitingState lines (has .lines-room) ∙ ap (λ (l : List LineState). l ++ tail) (sym (waiting-states image known)) in
-    let ended : ends trace image answers lines ≡ runState (headerOf image ++ bodiesOf (runTrace trace ds .devices)) (runTrace trace ds .answers ++ drop (length trace) answers) (statesOf (runTrace trace ds .devices) ++ tail) =
+    let ended : ends trace image answers lines ≡ runState (tableOfContents image ++ bodiesOf (runTrace trace ds .devices)) (runTrace trace ds .answers ++ drop (length trace) answers) (statesOf (runTrace trace ds .devices) ++ tail) =
     ap (λ (m : ℕ). events trace m (length trace) (runState image answers (filled m waitingState lines))) served
     ∙ ap (λ (l : List LineState). events trace n (length trace) (runState image answers l)) began
     ∙ ap (λ (l : List ℕ). events trace n (length trace) (runState l answers (statesOf ds ++ tail))) (sym (waiting-image image known))

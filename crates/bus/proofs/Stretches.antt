@@ -10,17 +10,17 @@ use lib.ListN.{length, getD, set, take, drop, length-drop, length-append}
 use lib.Seq.{take-suc, getD-drop, drop-cons, set-at, append-snoc}
 use lib.Dec.{eqb, ltb}
 use borrow.Author.Tests.{ltb-true, lt-ltb, le-ltb, ne-eqb}
-use Rattle.bits.specs.Bit.{bitOf}
+use Rattle.bits.specs.Bit.{bitOf, levelByte}
 use Rattle.bits.specs.Slots.{levelsIn, countIn, onesWord, bothSlots}
 use Rattle.bits.proofs.Slots.{levels-of, count-of, ones-bit, both-level, both-count}
 use Rattle.bits.proofs.Words.{bit-built-low, bit-built-next}
 use Rattle.line.specs.declared.Stage.{Stage}
-use Rattle.device.specs.Device.{stateOf, sendsOf}
+use Rattle.device.specs.Device.{lineState, sendsOf}
 use Rattle.device.specs.Through.{aheadOf, knownAt, slotLeaves, slotsLeave}
 use Rattle.device.proofs.Ahead.{ahead-sends, waiting-ahead}
 use Rattle.bus.specs.declared.Event.{Event}
 use Rattle.bus.specs.declared.Event.the-variants.{Slot, Reset, Pulse}
-use Rattle.bus.specs.Bus.{Device, eventOf, pullsLow, someLow, presence, levelOf, nextDevice, nextState, nextBody, busStepAt, busStep, Run, answerByte, withAnswer, runTrace}
+use Rattle.bus.specs.Bus.{Device, eventOf, pullsLow, someLow, presence, levelOf, nextDevice, nextState, nextBody, busStepAt, busStep, Run, withAnswer, runTrace}
 use Rattle.bus.specs.Loops.{masterLevel, deviceAhead, ones, markOf, afterSlots, afterStretch, slotAt, slotsFrom, stretchCount, slotLevels, levelsBy, stretchLevels, putLevels, stretchFrom, waitsIn, aheads, busState, turns, Reached, stretchAt, stretches}
 use Rattle.bus.proofs.Laws.{slot-there, bit-fits, levels-few, Marked, both-marked}
 use Rattle.bus.proofs.Idle.{waits-is}
@@ -44,7 +44,7 @@ aheads-more word i (x ∷ xs) d =
 
 -- a device that waits sends ones
 waits-ones : (d : Device) → waitsIn (d .state .stage) ≡ true → deviceAhead d ≡ onesWord 32
-waits-ones d e = ap (λ (s : Stage). aheadOf (stateOf s) (d .kind) (d .body)) (waits-is (d .state .stage) e) ∙ waiting-ahead (d .kind) (d .body)
+waits-ones d e = ap (λ (s : Stage). aheadOf (lineState s) (d .kind) (d .body)) (waits-is (d .state .stage) e) ∙ waiting-ahead (d .kind) (d .body)
 
 ones-level : (j : ℕ) → j < 32 → bitOf (levelsIn (onesWord 32)) j ≡ true
 ones-level j h = ap (λ (x : ℕ). bitOf x j) (levels-of 0xFFFFFFFF 32 (omega arith)) ∙ ones-bit j h
@@ -216,7 +216,7 @@ slot-event trace k e = byte (getD trace k 0) (ltb-true (getD trace k 0) 2 (both 
 -- the answers of c events whose levels are bits
 abbrev pub answersOf : ℕ → ℕ → List ℕ
 answersOf levels zero = []
-answersOf levels (suc c) = answersOf levels c ++ (answerByte (bitOf levels c) ∷ [])
+answersOf levels (suc c) = answersOf levels c ++ (levelByte (bitOf levels c) ∷ [])
 
 map-same : (levels : ℕ) (ds : List Device) → ds ≡ map (afterSlots levels 0) ds
 unfolding afterSlots slotsLeave
@@ -251,10 +251,10 @@ module _ (trace : List ℕ) (k : ℕ) (ds : List Device) where
       let es = map (afterSlots levels c) ds in
       let few : c < 32 = omega (arith, slots-few trace k ahead 0 32) in
       let level : levelOf (Slot sent) es ≡ bitOf levels c = level-ahead sent levels c ds few (ap (knownAt ahead) (sym (zero-add c)) ∙ has .known) ∙ ap (λ (j : ℕ). sent && bitOf (levelsIn ahead) j) (sym (zero-add c)) ∙ sym (levels-bit trace k ahead 0 count c h) in
-      let one : runTrace (byte ∷ []) es ≡ record { answers = answerByte (bitOf levels c) ∷ []; devices = map (afterSlots levels (suc c)) ds } =
-      ap (λ (v : Event). record { answers = answerByte (levelOf v es) ∷ []; devices = map (nextDevice v (levelOf v es)) es }) event
-      ∙ ap (λ (b : Bool). record { answers = answerByte b ∷ []; devices = map (nextDevice (Slot sent) b) es }) level
-      ∙ ap (λ (l : List Device). record { answers = answerByte (bitOf levels c) ∷ []; devices = l }) (map-next sent levels c ds) in
+      let one : runTrace (byte ∷ []) es ≡ record { answers = levelByte (bitOf levels c) ∷ []; devices = map (afterSlots levels (suc c)) ds } =
+      ap (λ (v : Event). record { answers = levelByte (levelOf v es) ∷ []; devices = map (nextDevice v (levelOf v es)) es }) event
+      ∙ ap (λ (b : Bool). record { answers = levelByte b ∷ []; devices = map (nextDevice (Slot sent) b) es }) level
+      ∙ ap (λ (l : List Device). record { answers = levelByte (bitOf levels c) ∷ []; devices = l }) (map-next sent levels c ds) in
       ap (λ (t : List ℕ). runTrace t ds) (take-suc (drop k trace) c 0 (omega (arith, there, length-drop k trace)))
       ∙ run-append (take c (drop k trace)) (byte ∷ []) ds
       ∙ ap (λ (r : Run). runAfter (r .answers) (runTrace (byte ∷ []) (r .devices))) (slots-run c (omega arith))
@@ -326,11 +326,11 @@ module _ (trace : List ℕ) (k : ℕ) (ds : List Device) where
 
   alone : (event : Event) → Type 0
   alone event = let levels = levelsBy event trace k (aheadsOn ones 0 ds) (length ds) 1 in
-      _≡_ {A = Run} (record { answers = answerByte (levelOf event ds) ∷ []; devices = map (nextDevice event (levelOf event ds)) ds }) (record { answers = answersOf levels 1; devices = map (afterStretch event levels 1) ds })
+      _≡_ {A = Run} (record { answers = levelByte (levelOf event ds) ∷ []; devices = map (nextDevice event (levelOf event ds)) ds }) (record { answers = answersOf levels 1; devices = map (afterStretch event levels 1) ds })
 
   at-reset : alone Reset
   unfolding alone levelsBy levelOf afterStretch nextDevice nextState nextBody
-  at-reset = ap (λ (b : Bool). record { answers = answerByte b ∷ []; devices = map (nextDevice Reset true) ds }) (reset-level ds)
+  at-reset = ap (λ (b : Bool). record { answers = levelByte b ∷ []; devices = map (nextDevice Reset true) ds }) (reset-level ds)
 
   at-pulse : alone Pulse
   unfolding alone levelsBy levelOf afterStretch nextDevice nextState nextBody bitOf
@@ -375,7 +375,7 @@ module _ (trace : List ℕ) (k : ℕ) (ds : List Device) where
 
 answers-length : (levels c : ℕ) → length (answersOf levels c) ≡ c
 answers-length levels zero = refl
-answers-length levels (suc c) = omega (arith, length-append (answersOf levels c) (answerByte (bitOf levels c) ∷ []), answers-length levels c)
+answers-length levels (suc c) = omega (arith, length-append (answersOf levels c) (levelByte (bitOf levels c) ∷ []), answers-length levels c)
 
 pub put-is : (done answers : List ℕ) (k levels c : ℕ) → length done ≡ k → k + c ≤ length answers
     → putLevels (done ++ drop k answers) k levels c ≡ (done ++ answersOf levels c) ++ drop (k + c) answers
@@ -383,7 +383,7 @@ unfolding putLevels
 put-is done answers k levels zero e h =
     ap (λ (l : List ℕ). l ++ drop k answers) (sym (append-nil done)) ∙ ap (λ (j : ℕ). (done ++ []) ++ drop j answers) (sym (add-zero k))
 put-is done answers k levels (suc c) e h =
-    let a = answerByte (bitOf levels c) in
+    let a = levelByte (bitOf levels c) in
     let l = done ++ answersOf levels c in
     let len : length l ≡ k + c = omega (arith, length-append done (answersOf levels c), answers-length levels c) in
     let next : suc (k + c) ≡ k + suc c = omega arith in

@@ -4,9 +4,10 @@ use Prim.Native.Nat.{ℕ}
 use mathlib.Core.Bool.{Bool, true, false, not, cond, _||_}
 use mathlib.Core.List.{List, [], _∷_, map}
 use lib.Dec.{eqb}
+use Rattle.bits.specs.Bit.{levelByte}
 use Rattle.kind.specs.declared.Kind.{Kind}
 use Rattle.device.specs.declared.LineState.{LineState}
-use Rattle.device.specs.Device.{resetState, sendsOf, stateAfter, writeOf, resetBody, pulseOf, programOf}
+use Rattle.device.specs.Device.{resetState, sendsOf, stateAfterSlot, bodyAfterSlot, bodyAfterReset, stateAfterPulse, bodyAfterPulse}
 use Rattle.bus.specs.declared.Event.{Event}
 use Rattle.bus.specs.declared.Event.the-variants.{Slot, Reset, Pulse}
 
@@ -15,8 +16,8 @@ pub record Device : Type 0 where
   pub body : List ℕ
   pub state : LineState
 
-abbrev pub deviceOf : Kind → List ℕ → LineState → Device
-deviceOf kind body state = record { kind = kind; body = body; state = state }
+abbrev pub deviceWith : Kind → List ℕ → LineState → Device
+deviceWith kind body state = record { kind = kind; body = body; state = state }
 
 -- one byte per event: 0 write-zero slot, 1 write-one slot (also the read slot), 2 reset, 3 program pulse; a run refuses any other byte
 unfoldable pub eventOf : ℕ → Event
@@ -43,17 +44,17 @@ levelOf Pulse ds = true
 
 -- what an event at a level makes of a device. In a slot a device that listens takes this level, not the master's bit
 unfoldable pub nextState : Event → Bool → Device → LineState
-nextState (Slot sent) level d = stateAfter (d .state) (d .kind) (d .body) level
+nextState (Slot sent) level d = stateAfterSlot (d .state) (d .kind) (d .body) level
 nextState Reset level d = resetState
-nextState Pulse level d = pulseOf (d .state) (d .kind) (d .body)
+nextState Pulse level d = stateAfterPulse (d .state) (d .kind) (d .body)
 
 unfoldable pub nextBody : Event → Bool → Device → List ℕ
-nextBody (Slot sent) level d = writeOf (d .state) (d .kind) (d .body) level
-nextBody Reset level d = resetBody (d .state) (d .kind) (d .body)
-nextBody Pulse level d = programOf (d .state) (d .kind) (d .body)
+nextBody (Slot sent) level d = bodyAfterSlot (d .state) (d .kind) (d .body) level
+nextBody Reset level d = bodyAfterReset (d .state) (d .kind) (d .body)
+nextBody Pulse level d = bodyAfterPulse (d .state) (d .kind) (d .body)
 
 unfoldable pub nextDevice : Event → Bool → Device → Device
-nextDevice event level d = deviceOf (d .kind) (nextBody event level d) (nextState event level d)
+nextDevice event level d = deviceWith (d .kind) (nextBody event level d) (nextState event level d)
 
 -- an event on the bus: its level, which every device is given, and the devices after it
 pub record BusStep : Type 0 where
@@ -71,12 +72,8 @@ pub record Run : Type 0 where
   pub answers : List ℕ
   pub devices : List Device
 
-unfoldable pub answerByte : Bool → ℕ
-answerByte false = 0
-answerByte true = 1
-
 unfoldable pub withAnswer : Bool → Run → Run
-withAnswer level rest = record { answers = answerByte level ∷ rest .answers; devices = rest .devices }
+withAnswer level rest = record { answers = levelByte level ∷ rest .answers; devices = rest .devices }
 
 unfoldable pub runTrace : List ℕ → List Device → Run
 runTrace [] ds = record { answers = []; devices = ds }

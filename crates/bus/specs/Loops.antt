@@ -5,7 +5,7 @@ use mathlib.Core.Bool.{Bool, true, false, cond, _&&_}
 use mathlib.Core.List.{List, [], _∷_, _++_, map}
 use lib.ListN.{length, getD, set, take, drop}
 use lib.Dec.{eqb, ltb, leb}
-use Rattle.bits.specs.Bit.{bitOf}
+use Rattle.bits.specs.Bit.{bitOf, levelByte}
 use Rattle.bits.specs.Slots.{slotsWord, levelsIn, countIn, bothSlots}
 use Rattle.kind.specs.declared.Kind.the-variants.{Unknown}
 use Rattle.kind.specs.Kind.{bodySize}
@@ -17,12 +17,12 @@ use Rattle.line.specs.declared.RomStage.the-variants.{Waiting, Command, Read, M
 use Rattle.line.specs.declared.Stage.{Stage}
 use Rattle.line.specs.declared.Stage.the-variants.{Rom, Memory}
 use Rattle.device.specs.declared.LineState.{LineState}
-use Rattle.device.specs.Device.{waitingState, resetState, pulseOf}
+use Rattle.device.specs.Device.{waitingState, resetState, stateAfterPulse}
 use Rattle.device.specs.Through.{aheadOf, knownAt, slotsLeave, stepsLeave}
 use Rattle.bus.specs.declared.Event.{Event}
 use Rattle.bus.specs.declared.Event.the-variants.{Slot, Reset, Pulse}
 use Rattle.bus.specs.declared.Place.{Place}
-use Rattle.bus.specs.Bus.{Device, deviceOf, eventOf, nextDevice, answerByte}
+use Rattle.bus.specs.Bus.{Device, deviceWith, eventOf, nextDevice}
 
 -- ---- one device
 
@@ -49,7 +49,7 @@ placeIn image i =
     (record { kind = Unknown; start = 0; end = 0 })
 
 unfoldable pub deviceAt : List ℕ → Place → LineState → Device
-deviceAt image place state = deviceOf (place .kind) (take (place .end - place .start) (drop (place .start) image)) state
+deviceAt image place state = deviceWith (place .kind) (take (place .end - place .start) (drop (place .start) image)) state
 
 unfoldable pub deviceIn : List ℕ → ℕ → LineState → Device
 deviceIn image i state = deviceAt image (placeIn image i) state
@@ -142,7 +142,7 @@ loneLevels image ahead = firstEight (deviceIn image (loneDevice ahead) waitingSt
 unfoldable pub afterSlots : ℕ → ℕ → Device → Device
 afterSlots levels count d =
     let left = slotsLeave (d .kind) levels count (record { state = d .state; body = d .body }) in
-    deviceOf (d .kind) (left .body) (left .state)
+    deviceWith (d .kind) (left .body) (left .state)
 
 unfoldable pub afterStretch : Event → ℕ → ℕ → Device → Device
 afterStretch (Slot sent) levels count d = afterSlots levels count d
@@ -182,7 +182,7 @@ stretchFrom trace k ahead n = let count = stretchCount trace k ahead in slotsWor
 -- the answers with those of a stretch
 unfoldable pub putLevels : List ℕ → ℕ → ℕ → ℕ → List ℕ
 putLevels answers k levels zero = answers
-putLevels answers k levels (suc c) = set (putLevels answers k levels c) (k + c) (answerByte (bitOf levels c))
+putLevels answers k levels (suc c) = set (putLevels answers k levels c) (k + c) (levelByte (bitOf levels c))
 
 -- ---- the turns of all devices
 
@@ -244,7 +244,7 @@ slotsGiven levels count d = cond (ltb 32 count) (record { stage = stageOn (d .st
 unfoldable pub stateGiven : Event → ℕ → ℕ → Device → LineState
 stateGiven (Slot sent) levels count d = slotsGiven levels count d
 stateGiven Reset levels count d = resetState
-stateGiven Pulse levels count d = pulseOf (d .state) (d .kind) (d .body)
+stateGiven Pulse levels count d = stateAfterPulse (d .state) (d .kind) (d .body)
 
 abbrev pub stateIn : ℕ → ℕ → Device → LineState
 stateIn byte stretch d = stateGiven (eventOf byte) (levelsIn stretch) (countIn stretch) d

@@ -6,21 +6,21 @@ use lib.ListN.{length, take, drop, replicate}
 use Rattle.image.specs.Image.{countOf, kindAt, bodyAt}
 use Rattle.device.specs.declared.LineState.{LineState}
 use Rattle.device.specs.Device.{waitingState}
-use Rattle.bus.specs.Bus.{Device, deviceOf, Run, runTrace}
+use Rattle.bus.specs.Bus.{Device, deviceWith, Run, runTrace}
 use Rattle.bus.specs.Refusal.{runRefusal}
 
 -- the devices of an image from entry i on, one for each line state
 unfoldable pub devicesFrom : List ℕ → ℕ → List LineState → List Device
 devicesFrom image i [] = []
-devicesFrom image i (state ∷ states) = deviceOf (kindAt image i) (bodyAt image i) state ∷ devicesFrom image (suc i) states
+devicesFrom image i (state ∷ states) = deviceWith (kindAt image i) (bodyAt image i) state ∷ devicesFrom image (suc i) states
 
 -- at the start of a run every device waits for a reset
 unfoldable pub waitingDevices : List ℕ → List Device
 waitingDevices image = devicesFrom image 0 (replicate (countOf image) waitingState)
 
 -- the image of devices: its table of contents, then their bodies, one after another
-abbrev pub headerOf : List ℕ → List ℕ
-headerOf image = take (2 + 4 * countOf image) image
+abbrev pub tableOfContents : List ℕ → List ℕ
+tableOfContents image = take (2 + 4 * countOf image) image
 
 unfoldable pub bodiesOf : List Device → List ℕ
 bodiesOf [] = []
@@ -50,7 +50,7 @@ pub record RunLeaves (left : RunOutcome) (number : ℕ) (image answers : List �
 unfoldable pub leftByRun : Run → List ℕ → List ℕ → List ℕ → List LineState → RunOutcome
 leftByRun ran image trace answers lines =
     runOutcome 0
-    (headerOf image ++ bodiesOf (ran .devices))
+    (tableOfContents image ++ bodiesOf (ran .devices))
     (ran .answers ++ drop (length trace) answers)
     (statesOf (ran .devices) ++ drop (countOf image) lines)
 

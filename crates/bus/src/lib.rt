@@ -16,7 +16,7 @@ ghost use Rattle.bits.specs.Bit.{bitOf};
 ghost use Rattle.bits.specs.Slots.{levelsIn, countIn};
 ghost use Rattle.image.specs.Image.{countOf, kindAt};
 ghost use Rattle.image.specs.Refusal.{someBelow};
-ghost use Rattle.bus.specs.Bus.{deviceOf, eventOf};
+ghost use Rattle.bus.specs.Bus.{deviceWith, eventOf};
 ghost use Rattle.bus.specs.Refusal.{someByte, badTrace, isEprom, badPulse, noRunRoom, runRefusal};
 ghost use Rattle.bus.specs.Run.{RunLeaves, runOf};
 ghost use Rattle.bus.specs.Loops.{isWaiting, waitsIn, idleIn, placeIn, deviceAt, deviceIn, masterLevel, servedOf, bitMark, searchMark, romMark, markOf, aheadWith, aheads, loneBit, firstEight, loneLevels, bitsOn, romOn, stageOn, slotsGiven, stateIn, statesGiven, afterStretch, turnedState, turnedImage, slotAt, slotsFrom, stretchCount, slotLevels, stretchLevels, stretchFrom, putLevels, busState, turns, filled, runState, events};
@@ -153,7 +153,7 @@ fn stretch_length(stretch: u64) -> usize
 
 // What a stretch of a trace makes of a device: its next line state, and its body.
 fn device_next(byte: u8, stretch: u64, state: LineState, kind: Kind, body: &mut [u8]) -> LineState
-    ensures { λ r. ⌜ deviceOf kind (now (body .exit)) r ≡ afterStretch (eventOf byte) (levelsIn stretch) (countIn stretch) (deviceOf kind (now (body .entry)) state) ⌝ }
+    ensures { λ r. ⌜ deviceWith kind (now (body .exit)) r ≡ afterStretch (eventOf byte) (levelsIn stretch) (countIn stretch) (deviceWith kind (now (body .entry)) state) ⌝ }
 {
     match event_of(byte) {
         Event::Slot(_) => state.slots(
@@ -317,7 +317,7 @@ fn stage_on(stage: Stage, n: u8) -> Stage
 // What slots make of a device's line state: a stretch of more than a word holds is one of whole bits of a search, in which every device goes on
 // that does not wait.
 fn slots_given(stretch: u64, state: LineState, kind: Kind, body: &[u8]) -> LineState
-    ensures { λ r. ⌜ r ≡ slotsGiven (levelsIn stretch) (countIn stretch) (deviceOf kind (now (body .entry)) state) ⌝ }
+    ensures { λ r. ⌜ r ≡ slotsGiven (levelsIn stretch) (countIn stretch) (deviceWith kind (now (body .entry)) state) ⌝ }
 {
     let count = bits::count_in(stretch);
     if MOST_SLOTS < count {
@@ -331,7 +331,7 @@ fn slots_given(stretch: u64, state: LineState, kind: Kind, body: &[u8]) -> LineS
 
 // What a stretch makes of a device's line state, where the body is only read.
 fn device_given(byte: u8, stretch: u64, state: LineState, kind: Kind, body: &[u8]) -> LineState
-    ensures { λ r. ⌜ r ≡ stateIn byte stretch (deviceOf kind (now (body .entry)) state) ⌝ }
+    ensures { λ r. ⌜ r ≡ stateIn byte stretch (deviceWith kind (now (body .entry)) state) ⌝ }
 {
     match event_of(byte) {
         Event::Slot(_) => slots_given(stretch, state, kind, body),

@@ -25,7 +25,7 @@ use Rattle.sram.proofs.SlotsAhead as sram
 use Rattle.eprom.specs.Eprom.{epromRange}
 use Rattle.eprom.proofs.SlotsAhead as eprom
 use Rattle.device.specs.declared.LineState.{LineState}
-use Rattle.device.specs.Device.{sizeOf, commandStep, epromIn, memoryRange, stageRange, memorySends, stageSends, memoryStep, stageStep, memoryWrite, stageWrite, stateOf, waitingState, taken, sendsOf}
+use Rattle.device.specs.Device.{sizeOf, commandStep, epromIn, memoryRange, stageRange, memorySends, stageSends, memoryStep, stageStep, memoryWrite, stageWrite, lineState, waitingState, taken, sendsOf}
 use Rattle.device.specs.Through.{memoryAhead, stageAhead, aheadOf, knownAt, Left, slotsLeave}
 use Rattle.device.proofs.Laws.{stage-write-length}
 use Rattle.eprom.proofs.Laws.{both}
@@ -90,7 +90,7 @@ marked word j h = rw (lt-ltb j (countIn word) h) (or-true (eqb j 0))
 module _ (kind : Kind) where
   -- a stage in range, with a body of the kind's size
   ranged-sends : (j : ℕ) (stage : Stage) (body : List ℕ) (levels : ℕ) → length body ≡ bodySize kind → stageRange stage kind ≡ true
-      → knownAt (stageAhead stage kind body) j ≡ true → sent kind (after (stateOf stage) kind body levels j) ≡ bitOf (levelsIn (stageAhead stage kind body)) j
+      → knownAt (stageAhead stage kind body) j ≡ true → sent kind (after (lineState stage) kind body levels j) ≡ bitOf (levelsIn (stageAhead stage kind body)) j
   unfolding sendsOf slotsLeave
   ranged-sends zero stage body levels sized ranged known =
       ap (λ (s : Stage). stageSends s body) (sized-taken kind body stage sized ranged) ∙ sym (first stage kind body ranged)
@@ -101,8 +101,8 @@ module _ (kind : Kind) where
       let inside = later (stageAhead stage kind body) j known in
       let g = goes kind body line stage ranged (omega arith) in
       let more = g .follows .count in
-      let slot = slot-of kind body (stateOf stage) stage line (sized-taken kind body stage sized ranged) in
-      ap (sent kind) (one-and-then kind levels j (with (stateOf stage) body) ∙ ap (slotsLeave kind (levels / 2) j) slot)
+      let slot = slot-of kind body (lineState stage) stage line (sized-taken kind body stage sized ranged) in
+      ap (sent kind) (one-and-then kind levels j (with (lineState stage) body) ∙ ap (slotsLeave kind (levels / 2) j) slot)
       ∙ ranged-sends j next left (levels / 2) (stage-write-length stage kind body line ∙ sized) (g .ranged) (marked (stageAhead next kind left) j (omega arith))
       ∙ g .follows .same j inside
 

@@ -15,7 +15,7 @@ use Rattle.line.specs.declared.Stage.{Stage}
 use Rattle.line.specs.Names.{waiting}
 use Rattle.rom.specs.Rom.{romStep}
 use Rattle.device.specs.declared.LineState.{LineState}
-use Rattle.device.specs.Device.{sramIn, epromIn, stageRange, stageStep, stageWrite, stateOf, waitingState, taken, stateAfter, writeOf}
+use Rattle.device.specs.Device.{sramIn, epromIn, stageRange, stageStep, stageWrite, lineState, waitingState, taken, stateAfterSlot, bodyAfterSlot}
 use Rattle.device.specs.Through.{Left, slotLeaves, slotsLeave, stepsLeave}
 
 -- a line state and a body
@@ -60,14 +60,14 @@ one-and-then kind levels (suc n) left = rw (one-and-then kind levels n left, hal
 -- ---- by the stage that is taken
 
 module _ (kind : Kind) (body : List ℕ) where
-  pub sized-taken : (stage : Stage) → length body ≡ bodySize kind → stageRange stage kind ≡ true → taken (stateOf stage) kind body ≡ stage
+  pub sized-taken : (stage : Stage) → length body ≡ bodySize kind → stageRange stage kind ≡ true → taken (lineState stage) kind body ≡ stage
   unfolding taken
   sized-taken stage sized ranged = rw (eq-eqb (length body) (bodySize kind) sized, ranged)
 
   pub slot-of : (state : LineState) (stage : Stage) (level : Bool) → taken state kind body ≡ stage
-      → slotLeaves kind level (with state body) ≡ with (stateOf (stageStep stage kind body level)) (stageWrite stage kind body level)
-  unfolding slotLeaves stateAfter writeOf
-  slot-of state stage level t = ap (λ (s : Stage). with (stateOf (stageStep s kind body level)) (stageWrite s kind body level)) t
+      → slotLeaves kind level (with state body) ≡ with (lineState (stageStep stage kind body level)) (stageWrite stage kind body level)
+  unfolding slotLeaves stateAfterSlot bodyAfterSlot
+  slot-of state stage level t = ap (λ (s : Stage). with (lineState (stageStep s kind body level)) (stageWrite s kind body level)) t
 
   -- a device that waits goes on waiting
   pub waiting-taken : taken waitingState kind body ≡ waiting
@@ -90,17 +90,17 @@ module _ (kind : Kind) (body : List ℕ) where
 
   -- ---- the line state alone
 
-  pub step-of : (state : LineState) (stage : Stage) (level : Bool) → taken state kind body ≡ stage → stateAfter state kind body level ≡ stateOf (stageStep stage kind body level)
-  unfolding stateAfter
-  step-of state stage level t = ap (λ (s : Stage). stateOf (stageStep s kind body level)) t
+  pub step-of : (state : LineState) (stage : Stage) (level : Bool) → taken state kind body ≡ stage → stateAfterSlot state kind body level ≡ lineState (stageStep stage kind body level)
+  unfolding stateAfterSlot
+  step-of state stage level t = ap (λ (s : Stage). lineState (stageStep s kind body level)) t
 
   pub step-and-then : (levels n : ℕ) (state : LineState)
-      → stepsLeave kind body levels (suc n) state ≡ stepsLeave kind body (levels / 2) n (stateAfter state kind body (bitOf levels 0))
+      → stepsLeave kind body levels (suc n) state ≡ stepsLeave kind body (levels / 2) n (stateAfterSlot state kind body (bitOf levels 0))
   unfolding stepsLeave
   step-and-then levels zero state = refl
   step-and-then levels (suc n) state = rw (step-and-then levels n state, halved levels n)
 
-  pub step-waiting : (state : LineState) (level : Bool) → taken state kind body ≡ waiting → stateAfter state kind body level ≡ waitingState
+  pub step-waiting : (state : LineState) (level : Bool) → taken state kind body ≡ waiting → stateAfterSlot state kind body level ≡ waitingState
   unfolding stageStep romStep
   step-waiting state level t = step-of state waiting level t
 
@@ -108,4 +108,4 @@ module _ (kind : Kind) (body : List ℕ) where
   unfolding stepsLeave
   steps-waiting levels zero = refl
   steps-waiting levels (suc n) =
-      ap (λ (s : LineState). stateAfter s kind body (bitOf levels n)) (steps-waiting levels n) ∙ step-waiting waitingState (bitOf levels n) waiting-taken
+      ap (λ (s : LineState). stateAfterSlot s kind body (bitOf levels n)) (steps-waiting levels n) ∙ step-waiting waitingState (bitOf levels n) waiting-taken

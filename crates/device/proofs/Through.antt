@@ -30,7 +30,7 @@ use Rattle.eprom.specs.Eprom.{epromRange}
 use Rattle.eprom.proofs.Laws.{both}
 use Rattle.eprom.proofs.SlotsThrough as eprom
 use Rattle.device.specs.declared.LineState.{LineState}
-use Rattle.device.specs.Device.{sizeOf, commandStep, sramIn, epromIn, memoryRange, stageRange, memoryStep, stageStep, memoryWrite, stageWrite, stateOf, taken, stateAfter}
+use Rattle.device.specs.Device.{sizeOf, commandStep, sramIn, epromIn, memoryRange, stageRange, memoryStep, stageStep, memoryWrite, stageWrite, lineState, taken, stateAfterSlot}
 use Rattle.device.specs.Through.{Left, slotLeaves, slotsLeave, stepsLeave, throughCommand, memoryThrough, stageThrough}
 use Rattle.device.proofs.Several.{sram-ranged, sram-kept, eprom-ranged, eprom-kept, with, one-and-then, sized-taken, slot-of, slot-waiting, slots-waiting, step-of, step-and-then, step-waiting, steps-waiting}
 
@@ -117,30 +117,30 @@ steps-of (leads-to s) = s
 
 -- what a slot leaves
 abbrev pub slotOf : Stage → Kind → List ℕ → Bool → Left
-slotOf stage kind body level = with (stateOf (stageStep stage kind body level)) (stageWrite stage kind body level)
+slotOf stage kind body level = with (lineState (stageStep stage kind body level)) (stageWrite stage kind body level)
 
 module _ (kind : Kind) (body : List ℕ) (levels : ℕ) (sized : length body ≡ bodySize kind) where
   chain : (stages : ℕ → Stage) (n : ℕ)
       → ((k : ℕ) → k < n → stageRange (stages k) kind ≡ true)
       → ((k : ℕ) → k < n → stageStep (stages k) kind body (bitOf levels k) ≡ stages (suc k))
       → ((k : ℕ) → k < n → stageWrite (stages k) kind body (bitOf levels k) ≡ body)
-      → slotsLeave kind levels n (with (stateOf (stages 0)) body) ≡ with (stateOf (stages n)) body
+      → slotsLeave kind levels n (with (lineState (stages 0)) body) ≡ with (lineState (stages n)) body
   unfolding slotsLeave
   chain stages zero ranged step kept = refl
   chain stages (suc n) ranged step kept =
       let before = chain stages n (λ k l. ranged k (omega arith)) (λ k l. step k (omega arith)) (λ k l. kept k (omega arith)) in
       let fixed = sized-taken kind body (stages n) sized (ranged n (omega arith)) in
       ap (slotLeaves kind (bitOf levels n)) before
-      ∙ slot-of kind body (stateOf (stages n)) (stages n) (bitOf levels n) fixed
+      ∙ slot-of kind body (lineState (stages n)) (stages n) (bitOf levels n) fixed
       ∙ rw (step n (omega arith), kept n (omega arith))
 
-  leads : (stage last : Stage) (n : ℕ) → Steps stage kind body levels n last → slotsLeave kind levels (suc n) (with (stateOf stage) body) ≡ slotOf last kind body (bitOf levels n)
+  leads : (stage last : Stage) (n : ℕ) → Steps stage kind body levels n last → slotsLeave kind levels (suc n) (with (lineState stage) body) ≡ slotOf last kind body (bitOf levels n)
   unfolding slotsLeave
   leads stage last n s =
       let level = bitOf levels n in
-      ap (λ (x : Stage). slotLeaves kind level (slotsLeave kind levels n (with (stateOf x) body))) (sym (s .starts))
+      ap (λ (x : Stage). slotLeaves kind level (slotsLeave kind levels n (with (lineState x) body))) (sym (s .starts))
       ∙ ap (slotLeaves kind level) (chain (s .stages) n (λ k l. s .ranged k (omega arith)) (s .step) (s .kept))
-      ∙ slot-of kind body (stateOf (s .stages n)) (s .stages n) level (sized-taken kind body (s .stages n) sized (s .ranged n (omega arith)))
+      ∙ slot-of kind body (lineState (s .stages n)) (s .stages n) level (sized-taken kind body (s .stages n) sized (s .ranged n (omega arith)))
       ∙ ap (λ (x : Stage). slotOf x kind body level) (sym (s .ends))
 
 -- a device that is taken as waiting
@@ -180,32 +180,32 @@ module _ (kind : Kind) (body : List ℕ) (levels : ℕ) (sized : length body ≡
   step-chain : (stages : ℕ → Stage) (n : ℕ)
       → ((k : ℕ) → k < n → stageRange (stages k) kind ≡ true)
       → ((k : ℕ) → k < n → stageStep (stages k) kind body (bitOf levels k) ≡ stages (suc k))
-      → stepsLeave kind body levels n (stateOf (stages 0)) ≡ stateOf (stages n)
+      → stepsLeave kind body levels n (lineState (stages 0)) ≡ lineState (stages n)
   unfolding stepsLeave
   step-chain stages zero ranged step = refl
   step-chain stages (suc n) ranged step =
-      ap (λ (s : LineState). stateAfter s kind body (bitOf levels n)) (step-chain stages n (λ k l. ranged k (omega arith)) (λ k l. step k (omega arith)))
-      ∙ step-of kind body (stateOf (stages n)) (stages n) (bitOf levels n) (sized-taken kind body (stages n) sized (ranged n (omega arith)))
-      ∙ ap stateOf (step n (omega arith))
+      ap (λ (s : LineState). stateAfterSlot s kind body (bitOf levels n)) (step-chain stages n (λ k l. ranged k (omega arith)) (λ k l. step k (omega arith)))
+      ∙ step-of kind body (lineState (stages n)) (stages n) (bitOf levels n) (sized-taken kind body (stages n) sized (ranged n (omega arith)))
+      ∙ ap lineState (step n (omega arith))
 
-  step-leads : (stage last : Stage) (n : ℕ) → Steps stage kind body levels n last → stepsLeave kind body levels (suc n) (stateOf stage) ≡ stateOf (stageStep last kind body (bitOf levels n))
+  step-leads : (stage last : Stage) (n : ℕ) → Steps stage kind body levels n last → stepsLeave kind body levels (suc n) (lineState stage) ≡ lineState (stageStep last kind body (bitOf levels n))
   unfolding stepsLeave
   step-leads stage last n s =
       let level = bitOf levels n in
-      ap (λ (x : Stage). stateAfter (stepsLeave kind body levels n (stateOf x)) kind body level) (sym (s .starts))
-      ∙ ap (λ (x : LineState). stateAfter x kind body level) (step-chain (s .stages) n (λ k l. s .ranged k (omega arith)) (s .step))
-      ∙ step-of kind body (stateOf (s .stages n)) (s .stages n) level (sized-taken kind body (s .stages n) sized (s .ranged n (omega arith)))
-      ∙ ap (λ (x : Stage). stateOf (stageStep x kind body level)) (sym (s .ends))
+      ap (λ (x : Stage). stateAfterSlot (stepsLeave kind body levels n (lineState x)) kind body level) (sym (s .starts))
+      ∙ ap (λ (x : LineState). stateAfterSlot x kind body level) (step-chain (s .stages) n (λ k l. s .ranged k (omega arith)) (s .step))
+      ∙ step-of kind body (lineState (s .stages n)) (s .stages n) level (sized-taken kind body (s .stages n) sized (s .ranged n (omega arith)))
+      ∙ ap (λ (x : Stage). lineState (stageStep x kind body level)) (sym (s .ends))
 
 pub through-steps : (state : LineState) (kind : Kind) (body : List ℕ) (levels n : ℕ) (last : Stage)
     → stageThrough (taken state kind body) kind body levels n ≡ To last
-    → stepsLeave kind body levels (suc n) state ≡ stateOf (stageStep last kind body (bitOf levels n))
+    → stepsLeave kind body levels (suc n) state ≡ lineState (stageStep last kind body (bitOf levels n))
 unfolding taken stageStep romStep
 through-steps state kind body levels n last e = choose (eqb (length body) (bodySize kind) && stageRange (state .stage) kind) refl e
   where
     choose : (t : Bool) → (eqb (length body) (bodySize kind) && stageRange (state .stage) kind) ≡ t
         → stageThrough (cond t (state .stage) waiting) kind body levels n ≡ To last
-        → stepsLeave kind body levels (suc n) state ≡ stateOf (stageStep last kind body (bitOf levels n))
+        → stepsLeave kind body levels (suc n) state ≡ lineState (stageStep last kind body (bitOf levels n))
     choose true t e =
         let b = both (eqb (length body) (bodySize kind)) (stageRange (state .stage) kind) t in
         let r = right kind body levels n (state .stage) (b .1) in
@@ -214,4 +214,4 @@ through-steps state kind body levels n last e = choose (eqb (length body) (bodyS
         step-and-then kind body levels n state
         ∙ ap (stepsLeave kind body (levels / 2) n) (step-waiting kind body state (bitOf levels 0) (ap (λ (u : Bool). cond u (state .stage) waiting) t))
         ∙ steps-waiting kind body (levels / 2) n
-        ∙ ap (λ (x : Stage). stateOf (stageStep x kind body (bitOf levels n))) (to-waiting kind body levels n last e)
+        ∙ ap (λ (x : Stage). lineState (stageStep x kind body (bitOf levels n))) (to-waiting kind body levels n last e)

@@ -121,16 +121,16 @@ stageProgram (Memory m) body = memoryProgram m body
 
 -- ---- by the line state
 
-abbrev pub stateOf : Stage → LineState
-stateOf stage = record { stage = stage }
+abbrev pub lineState : Stage → LineState
+lineState stage = record { stage = stage }
 
 -- at the start of a run every device waits for a reset and answers 1
 abbrev pub waitingState : LineState
-waitingState = stateOf waiting
+waitingState = lineState waiting
 
 -- a reset puts each device at the ROM command
 abbrev pub resetState : LineState
-resetState = stateOf atRomCommand
+resetState = lineState atRomCommand
 
 -- Our own ruling, as document 01 has no such line state: one with a number outside its stage's range, in a memory function of another kind, or
 -- with a body not of its kind's size is taken as waiting. A family that is not known has no bytes of a body.
@@ -142,21 +142,21 @@ unfoldable pub sendsOf : LineState → Kind → List ℕ → Bool
 sendsOf state kind body = stageSends (taken state kind body) body
 
 -- its line state after a slot in which the line had a level
-unfoldable pub stateAfter : LineState → Kind → List ℕ → Bool → LineState
-stateAfter state kind body level = stateOf (stageStep (taken state kind body) kind body level)
+unfoldable pub stateAfterSlot : LineState → Kind → List ℕ → Bool → LineState
+stateAfterSlot state kind body level = lineState (stageStep (taken state kind body) kind body level)
 
 -- its body after that slot
-unfoldable pub writeOf : LineState → Kind → List ℕ → Bool → List ℕ
-writeOf state kind body level = stageWrite (taken state kind body) kind body level
+unfoldable pub bodyAfterSlot : LineState → Kind → List ℕ → Bool → List ℕ
+bodyAfterSlot state kind body level = stageWrite (taken state kind body) kind body level
 
 -- its body after a reset
-unfoldable pub resetBody : LineState → Kind → List ℕ → List ℕ
-resetBody state kind body = stageReset (taken state kind body) body
+unfoldable pub bodyAfterReset : LineState → Kind → List ℕ → List ℕ
+bodyAfterReset state kind body = stageReset (taken state kind body) body
 
 -- its line state after a program pulse
-unfoldable pub pulseOf : LineState → Kind → List ℕ → LineState
-pulseOf state kind body = stateOf (stagePulse (taken state kind body))
+unfoldable pub stateAfterPulse : LineState → Kind → List ℕ → LineState
+stateAfterPulse state kind body = lineState (stagePulse (taken state kind body))
 
 -- its body after a program pulse
-unfoldable pub programOf : LineState → Kind → List ℕ → List ℕ
-programOf state kind body = stageProgram (taken state kind body) body
+unfoldable pub bodyAfterPulse : LineState → Kind → List ℕ → List ℕ
+bodyAfterPulse state kind body = stageProgram (taken state kind body) body

@@ -18,7 +18,7 @@ use Rattle.rom.specs.Through.{romAhead, romThrough}
 use Rattle.sram.specs.Through.{sramAhead, sramThrough}
 use Rattle.eprom.specs.Through.{epromAhead, epromThrough}
 use Rattle.device.specs.declared.LineState.{LineState}
-use Rattle.device.specs.Device.{sizeOf, taken, stateAfter, writeOf}
+use Rattle.device.specs.Device.{sizeOf, taken, stateAfterSlot, bodyAfterSlot}
 
 -- ---- what is sent in the next slots, whatever their levels are, as a word of slots
 
@@ -46,7 +46,7 @@ pub record Left : Type 0 where
   pub body : List ℕ
 
 unfoldable pub slotLeaves : Kind → Bool → Left → Left
-slotLeaves kind level left = record { state = stateAfter (left .state) kind (left .body) level; body = writeOf (left .state) kind (left .body) level }
+slotLeaves kind level left = record { state = stateAfterSlot (left .state) kind (left .body) level; body = bodyAfterSlot (left .state) kind (left .body) level }
 
 unfoldable pub slotsLeave : Kind → ℕ → ℕ → Left → Left
 slotsLeave kind levels zero left = left
@@ -55,7 +55,7 @@ slotsLeave kind levels (suc n) left = slotLeaves kind (bitOf levels n) (slotsLea
 -- its line state alone, where the body is only read
 unfoldable pub stepsLeave : Kind → List ℕ → ℕ → ℕ → LineState → LineState
 stepsLeave kind body levels zero state = state
-stepsLeave kind body levels (suc n) state = stateAfter (stepsLeave kind body levels n state) kind body (bitOf levels n)
+stepsLeave kind body levels (suc n) state = stateAfterSlot (stepsLeave kind body levels n state) kind body (bitOf levels n)
 
 -- ---- slots at once: the stage after n of them, if they stay within the unit under way
 

@@ -8,7 +8,7 @@ use line::Stage;
 use line::Through;
 ghost use mathlib.Core.Path.{_≡_};
 ghost use Rattle.device.specs.Through.{memoryAhead, stageAhead, aheadOf, slotsLeave, stepsLeave, throughCommand, memoryThrough, stageThrough};
-ghost use Rattle.device.specs.Device.{sizeOf, memoryCommand, commandStep, sramIn, epromIn, memoryRange, stageRange, memorySends, stageSends, memoryStep, stageStep, memoryWrite, stageWrite, memoryReset, stageReset, memoryPulse, stagePulse, memoryProgram, stageProgram, waitingState, resetState, taken, sendsOf, stateAfter, writeOf, resetBody, pulseOf, programOf, stateOf};
+ghost use Rattle.device.specs.Device.{sizeOf, memoryCommand, commandStep, sramIn, epromIn, memoryRange, stageRange, memorySends, stageSends, memoryStep, stageStep, memoryWrite, stageWrite, memoryReset, stageReset, memoryPulse, stagePulse, memoryProgram, stageProgram, waitingState, resetState, taken, sendsOf, stateAfterSlot, bodyAfterSlot, bodyAfterReset, stateAfterPulse, bodyAfterPulse, lineState};
 
 // Where a device is on the line.
 pub struct LineState {
@@ -178,7 +178,7 @@ fn stage_write(stage: Stage, kind: Kind, body: &mut [u8], level: bool)
 
 // A slot: the line state after it; the body is left as it does.
 fn slot(stage: Stage, kind: Kind, body: &mut [u8], level: bool) -> LineState
-    ensures { λ r. ⌜ (r ≡ stateOf (stageStep stage kind (now (body .entry)) level)) × (now (body .exit) ≡ stageWrite stage kind (now (body .entry)) level) ⌝ }
+    ensures { λ r. ⌜ (r ≡ lineState (stageStep stage kind (now (body .entry)) level)) × (now (body .exit) ≡ stageWrite stage kind (now (body .entry)) level) ⌝ }
 {
     let next = stage_step(stage, kind, body, level);
     stage_write(stage, kind, body, level);
@@ -321,7 +321,7 @@ impl LineState {
 
     // The line state after a slot at a level.
     pub fn step(self, kind: Kind, body: &[u8], level: bool) -> LineState
-        ensures { λ r. ⌜ r ≡ stateAfter self kind (now (body .entry)) level ⌝ }
+        ensures { λ r. ⌜ r ≡ stateAfterSlot self kind (now (body .entry)) level ⌝ }
     {
         LineState {
             stage: stage_step(taken(self, kind, body), kind, body, level),
@@ -330,7 +330,7 @@ impl LineState {
 
     // Leaves the body as that slot does.
     pub fn write(self, kind: Kind, body: &mut [u8], level: bool)
-        ensures { λ r. ⌜ now (body .exit) ≡ writeOf self kind (now (body .entry)) level ⌝ }
+        ensures { λ r. ⌜ now (body .exit) ≡ bodyAfterSlot self kind (now (body .entry)) level ⌝ }
     {
         let stage = taken(self, kind, body);
         stage_write(stage, kind, body, level);
@@ -338,7 +338,7 @@ impl LineState {
 
     // A reset: the line state after it; the body is left as it does.
     pub fn reset(self, kind: Kind, body: &mut [u8]) -> LineState
-        ensures { λ r. ⌜ (r ≡ resetState) × (now (body .exit) ≡ resetBody self kind (now (body .entry))) ⌝ }
+        ensures { λ r. ⌜ (r ≡ resetState) × (now (body .exit) ≡ bodyAfterReset self kind (now (body .entry))) ⌝ }
     {
         let stage = taken(self, kind, body);
         stage_reset(stage, body);
@@ -347,7 +347,7 @@ impl LineState {
 
     // The line state after a program pulse.
     pub fn pulsed(self, kind: Kind, body: &[u8]) -> LineState
-        ensures { λ r. ⌜ r ≡ pulseOf self kind (now (body .entry)) ⌝ }
+        ensures { λ r. ⌜ r ≡ stateAfterPulse self kind (now (body .entry)) ⌝ }
     {
         LineState {
             stage: stage_pulse(taken(self, kind, body)),
@@ -356,7 +356,7 @@ impl LineState {
 
     // A program pulse: the line state after it; the body is left as it does.
     pub fn pulse(self, kind: Kind, body: &mut [u8]) -> LineState
-        ensures { λ r. ⌜ (r ≡ pulseOf self kind (now (body .entry))) × (now (body .exit) ≡ programOf self kind (now (body .entry))) ⌝ }
+        ensures { λ r. ⌜ (r ≡ stateAfterPulse self kind (now (body .entry))) × (now (body .exit) ≡ bodyAfterPulse self kind (now (body .entry))) ⌝ }
     {
         let stage = taken(self, kind, body);
         stage_program(stage, body);

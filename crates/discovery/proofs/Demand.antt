@@ -14,10 +14,10 @@ use Rattle.image.proofs.Accepted.{Known, accepted-known}
 use Rattle.rom.specs.Rom.{addressed}
 use Rattle.line.specs.declared.RomStage.the-variants.{Waiting}
 use Rattle.device.specs.declared.LineState.{LineState}
-use Rattle.device.specs.Device.{stateOf, waitingState}
+use Rattle.device.specs.Device.{lineState, waitingState}
 use Rattle.bus.specs.Bus.{Device, eventOf, presence, levelOf, runTrace}
 use Rattle.bus.specs.Refusal.{someByte, badTrace, badPulse, runRefusal}
-use Rattle.bus.specs.Run.{waitingDevices, headerOf, bodiesOf, statesOf, runOutcome, leftByRun, runAt, runOf}
+use Rattle.bus.specs.Run.{waitingDevices, tableOfContents, bodiesOf, statesOf, runOutcome, leftByRun, runAt, runOf}
 use Rattle.bus.proofs.Laws.{not-refused}
 use Rattle.bus.proofs.Runs.{run-length}
 use Rattle.bus.proofs.Shown.{waiting-all, waiting-image}
@@ -25,10 +25,10 @@ use Rattle.master.specs.declared.End.the-variants.{Done}
 use Rattle.master.specs.declared.Stage.the-variants.{Reset, Ended}
 use Rattle.master.specs.declared.Discrepancy.the-variants.{None}
 use Rattle.master.specs.declared.Master.{Master}
-use Rattle.master.specs.Master.{end, endNumber, reset, said, answerOf as answerIn, says, noBits, fresh, withStage, inRange, stageInRange, stageAfter, afterReset, after, nextOf}
+use Rattle.master.specs.Master.{end, endNumber, reset, said, answerOf as answerIn, says, noBits, fresh, withStage, inRange, stageInRange, stepByStage, afterReset, afterLevel, nextOf}
 use Rattle.master.specs.Drive.{started, codeCompleted}
 use Rattle.discovery.specs.Search.{Search, mostEvents, searchOf}
-use Rattle.discovery.specs.Words.{Bytes, Precedes, codeNumber, isReset, isSlot, resetsIn, slotsIn, slotNext, passesIn, Passes, passCodes}
+use Rattle.discovery.specs.Words.{Bytes, Precedes, codeWritten, isReset, isSlot, resetsIn, slotsIn, slotNext, passesIn, Passes, passCodes}
 use Rattle.discovery.specs.Searched.{TraceOf, eventsFor, resetsFor, Searched}
 use Rattle.discovery.proofs.Codes.{Code, listing, Lists, listing-lists, differ}
 use Rattle.discovery.proofs.Passes.{null, Runs, search-runs}
@@ -37,7 +37,7 @@ use Rattle.discovery.proofs.Devices.{active, stands, all-active, rom-un
 use Rattle.discovery.proofs.Steps.{masterOf}
 use Rattle.discovery.proofs.Driven.{bodies, Driven, here, on, driven-bodies, driven-devices, driven-last, driven-codes, driven-events, driven-search, driven-first, driven-next, driven-end}
 use Rattle.discovery.proofs.Whole.{codesOf, traceOf, bytesAll, passes-drive}
-use Rattle.discovery.proofs.Trace.{trace-resets, trace-passes, trace-slots, trace-length, trace-shape, trace-codes, trace-none, codes-size, code-number, at-member, member-at, codes-order}
+use Rattle.discovery.proofs.Trace.{trace-resets, trace-passes, trace-slots, trace-length, trace-shape, trace-codes, trace-none, codes-size, code-written, at-member, member-at, codes-order}
 use Rattle.discovery.proofs.Image.{bitsAt, entry-code, all-waiting, all-sized, all-wide, all-distinct, code-entry, entry-found, all-taken}
 
 -- ---- trace and codes
@@ -51,9 +51,9 @@ record Written (image trace codes : List ℕ) : Type 0 where
   events : length trace ≡ eventsFor (countOf image)
   written : codes ≡ passCodes trace
   size : length codes ≡ 8 * countOf image
-  complete : (i : ℕ) → i < countOf image → (k : ℕ) × (k < countOf image) × (codeNumber codes k ≡ codeAt image i)
-  sound : (k : ℕ) → k < countOf image → (i : ℕ) × (i < countOf image) × (codeNumber codes k ≡ codeAt image i)
-  order : (j k : ℕ) → j < k → k < countOf image → Precedes (codeNumber codes j) (codeNumber codes k)
+  complete : (i : ℕ) → i < countOf image → (k : ℕ) × (k < countOf image) × (codeWritten codes k ≡ codeAt image i)
+  sound : (k : ℕ) → k < countOf image → (i : ℕ) × (i < countOf image) × (codeWritten codes k ≡ codeAt image i)
+  order : (j k : ℕ) → j < k → k < countOf image → Precedes (codeWritten codes j) (codeWritten codes k)
   passes : passesIn trace ≡ countOf image
   resets : resetsIn trace ≡ resetsFor (countOf image)
   slots : slotsIn trace ≡ 200 * countOf image
@@ -104,10 +104,10 @@ module _ (image : List ℕ) (known : Known image) (bytes : Bytes image) (L : Lis
         complete = λ i h.
             let r = member-at (bitsAt image i) L (lists .complete (bitsAt image i) (entry-found image known bytes i h)) in
             let k = r .1 in
-            (r .0, omega arith, code-number L (r .0) (r .1) ∙ ap bytesOf (sym (r .2)) ∙ entry-code image known bytes i h);
+            (r .0, omega arith, code-written L (r .0) (r .1) ∙ ap bytesOf (sym (r .2)) ∙ entry-code image known bytes i h);
         sound = λ k h.
             let r = code-entry image known bytes (getD L k []) (lists .sound (getD L k []) (at-member L k (omega arith))) in
-            (r .0, r .1, code-number L k (omega arith) ∙ ap bytesOf (r .2) ∙ entry-code image known bytes (r .0) (r .1));
+            (r .0, r .1, code-written L k (omega arith) ∙ ap bytesOf (r .2) ∙ entry-code image known bytes (r .0) (r .1));
         order = λ j k h i. codes-order L (lists .wide) (lists .order) j k h (omega arith);
         passes = trace-passes L ∙ l;
         resets = some-resets n e;
@@ -118,11 +118,11 @@ module _ (image : List ℕ) (known : Known image) (bytes : Bytes image) (L : Lis
 
 -- a fresh master's first step
 started-is : started ≡ masterOf Reset 0 noBits None noBits None
-unfolding after inRange stageInRange stageAfter fresh withStage
+unfolding afterLevel inRange stageInRange stepByStage fresh withStage
 started-is = refl
 
 fresh-step : (level : ℕ) → nextOf fresh level ≡ started
-unfolding after inRange stageInRange stageAfter fresh withStage
+unfolding afterLevel inRange stageInRange stepByStage fresh withStage
 fresh-step level = refl
 
 -- a search drives a fresh master and waiting devices to the end, with no number
@@ -138,7 +138,7 @@ no-length (x ∷ xs) e = absurd (omega arith)
 
 -- no device: no presence on the first reset
 drives-none : (image : List ℕ) → waitingDevices image ≡ [] → Drives image (reset ∷ []) []
-unfolding after inRange stageInRange stageAfter afterReset fresh withStage said answerIn endNumber eventOf levelOf presence codeCompleted
+unfolding afterLevel inRange stageInRange stepByStage afterReset fresh withStage said answerIn endNumber eventOf levelOf presence codeCompleted
 drives-none image e = record {
   master = masterOf (Ended Done) 0 noBits None noBits None;
   devices = [];
@@ -161,9 +161,9 @@ drives-some image known bytes L lists runs n e =
     (λ d h. all-taken image known bytes d (lists .sound d h)) (omega arith) in
     record {
       master = ends .master;
-      devices = stands (stateOf addressed) (ends .members);
-      driven = subst (λ (m : Master). Driven m ds (traceOf L) (bytesAll L) (ends .master) (stands (stateOf addressed) (ends .members))) (sym started-is)
-          (subst (λ (es : List Device). Driven (masterOf Reset 0 noBits None noBits None) es (traceOf L) (bytesAll L) (ends .master) (stands (stateOf addressed) (ends .members))) (all-waiting image known bytes) (ends .driven));
+      devices = stands (lineState addressed) (ends .members);
+      driven = subst (λ (m : Master). Driven m ds (traceOf L) (bytesAll L) (ends .master) (stands (lineState addressed) (ends .members))) (sym started-is)
+          (subst (λ (es : List Device). Driven (masterOf Reset 0 noBits None noBits None) es (traceOf L) (bytesAll L) (ends .master) (stands (lineState addressed) (ends .members))) (all-waiting image known bytes) (ends .driven));
       ended = ends .ended;
     }
 
@@ -201,10 +201,10 @@ unfolding runOf runAt leftByRun
 run-replays image {trace} answers lines ok w d room lent =
     let ds = waitingDevices image in
     let run = runTrace trace ds in
-    let whole : headerOf image ++ bodiesOf (d .devices) ≡ image =
-    ap (λ (l : List ℕ). headerOf image ++ l) (same-image (d .devices) ds (driven-bodies (d .driven))) ∙ waiting-image image (accepted-known image ok) in
+    let whole : tableOfContents image ++ bodiesOf (d .devices) ≡ image =
+    ap (λ (l : List ℕ). tableOfContents image ++ l) (same-image (d .devices) ds (driven-bodies (d .driven))) ∙ waiting-image image (accepted-known image ok) in
     ap (λ (n : ℕ). runAt n image trace answers lines) (run-admitted image (length answers) (length lines) ok w room lent)
-    ∙ ap (λ (es : List Device). runOutcome 0 (headerOf image ++ bodiesOf es) (run .answers ++ drop (length trace) answers) (statesOf es ++ drop (countOf image) lines)) (driven-devices (d .driven))
+    ∙ ap (λ (es : List Device). runOutcome 0 (tableOfContents image ++ bodiesOf es) (run .answers ++ drop (length trace) answers) (statesOf es ++ drop (countOf image) lines)) (driven-devices (d .driven))
     ∙ ap (λ (l : List ℕ). runOutcome 0 l (run .answers ++ drop (length trace) answers) (statesOf (d .devices) ++ drop (countOf image) lines)) whole
 
 not-twice : (a b : List ℕ) → Precedes a b → a ≡ b → ⊥

@@ -18,10 +18,10 @@ use Rattle.line.specs.declared.Stage.the-variants.{Rom}
 use Rattle.line.specs.Names.{waiting}
 use Rattle.rom.specs.Rom.{romRange, addressed, afterCommand, afterDirection, afterSearch, romStep, romSends}
 use Rattle.device.specs.declared.LineState.{LineState}
-use Rattle.device.specs.Device.{stateOf, waitingState, resetState, sendsOf, stateAfter, stageRange, taken, stageReset, memoryReset, resetBody}
+use Rattle.device.specs.Device.{lineState, waitingState, resetState, sendsOf, stateAfterSlot, stageRange, taken, stageReset, memoryReset, bodyAfterReset}
 use Rattle.device.proofs.Laws.{rom-write, rom-reset, rom-sends, rom-step, searching, search-sends-bit, search-after-bit, search-sends-complement, search-after-complement, search-sends-direction}
 use Rattle.bus.specs.declared.Event.the-variants.{Slot, Reset}
-use Rattle.bus.specs.Bus.{Device, deviceOf, pullsLow, someLow, levelOf, nextState, nextBody, nextDevice}
+use Rattle.bus.specs.Bus.{Device, deviceWith, pullsLow, someLow, levelOf, nextState, nextBody, nextDevice}
 use Rattle.discovery.proofs.Codes.{Code, branch}
 use Rattle.discovery.proofs.Bits.{bitsFrom}
 use Rattle.discovery.proofs.Passes.{bits-level, complements-level}
@@ -30,7 +30,7 @@ use Rattle.discovery.proofs.Passes.{bits-level, complements-level}
 
 -- the same device in another line state
 abbrev pub inState : LineState → Device → Device
-inState s d = deviceOf (d .kind) (d .body) s
+inState s d = deviceWith (d .kind) (d .body) s
 
 -- a body of its kind's size
 abbrev pub Sized : List Device → Type 0
@@ -65,20 +65,20 @@ waiting-sends : (d : Device) → length (d .body) ≡ bodySize (d .kind) → sen
 unfolding romRange romSends
 waiting-sends d h = rom-sends Waiting (d .kind) (d .body) h refl
 
-waiting-steps : (d : Device) (level : Bool) → length (d .body) ≡ bodySize (d .kind) → stateAfter waitingState (d .kind) (d .body) level ≡ waitingState
+waiting-steps : (d : Device) (level : Bool) → length (d .body) ≡ bodySize (d .kind) → stateAfterSlot waitingState (d .kind) (d .body) level ≡ waitingState
 unfolding romRange romStep
 waiting-steps d level h = rom-step Waiting (d .kind) (d .body) h refl level
 
 -- in a ROM stage only the line state changes
-slot-next : (r : RomStage) (sent level : Bool) (d : Device) (s : LineState) → stateAfter (stateOf (Rom r)) (d .kind) (d .body) level ≡ s
-    → nextDevice (Slot sent) level (inState (stateOf (Rom r)) d) ≡ inState s d
+slot-next : (r : RomStage) (sent level : Bool) (d : Device) (s : LineState) → stateAfterSlot (lineState (Rom r)) (d .kind) (d .body) level ≡ s
+    → nextDevice (Slot sent) level (inState (lineState (Rom r)) d) ≡ inState s d
 unfolding nextDevice nextState nextBody
 slot-next r sent level d s e = rw (rom-write r (d .kind) (d .body) level, e)
 
 -- a slot that takes every device that takes part from one stage to another
 slot-all : (r : RomStage) (s : LineState) (sent level : Bool) (ms : List Member)
-    → ((d : Device) → length (d .body) ≡ bodySize (d .kind) → stateAfter (stateOf (Rom r)) (d .kind) (d .body) level ≡ s) → Sized (map device ms)
-    → map (nextDevice (Slot sent) level) (stands (stateOf (Rom r)) ms) ≡ stands s ms
+    → ((d : Device) → length (d .body) ≡ bodySize (d .kind) → stateAfterSlot (lineState (Rom r)) (d .kind) (d .body) level ≡ s) → Sized (map device ms)
+    → map (nextDevice (Slot sent) level) (stands (lineState (Rom r)) ms) ≡ stands s ms
 slot-all r s sent level [] f z = refl
 slot-all r s sent level (active d ∷ ms) f z = let h = slot-next r sent level d s (f d (z .0)) in let t = slot-all r s sent level ms f (z .1) in cc
 slot-all r s sent level (inactive d ∷ ms) f z =
@@ -91,8 +91,8 @@ or-false : (a b : Bool) → a ≡ true → b ≡ false → (not a || b) ≡ fals
 or-false a b p q = rw (p, q)
 
 none-low : (r : RomStage) (ms : List Member)
-    → ((d : Device) → length (d .body) ≡ bodySize (d .kind) → sendsOf (stateOf (Rom r)) (d .kind) (d .body) ≡ true) → Sized (map device ms)
-    → someLow (stands (stateOf (Rom r)) ms) ≡ false
+    → ((d : Device) → length (d .body) ≡ bodySize (d .kind) → sendsOf (lineState (Rom r)) (d .kind) (d .body) ≡ true) → Sized (map device ms)
+    → someLow (stands (lineState (Rom r)) ms) ≡ false
 unfolding someLow pullsLow
 none-low r [] f z = refl
 none-low r (active d ∷ ms) f z = or-false _ _ (f d (z .0)) (none-low r ms f (z .1))
@@ -103,8 +103,8 @@ sent-alone true = refl
 sent-alone false = refl
 
 slot-level : (r : RomStage) (sent : Bool) (ms : List Member)
-    → ((d : Device) → length (d .body) ≡ bodySize (d .kind) → sendsOf (stateOf (Rom r)) (d .kind) (d .body) ≡ true) → Sized (map device ms)
-    → levelOf (Slot sent) (stands (stateOf (Rom r)) ms) ≡ sent
+    → ((d : Device) → length (d .body) ≡ bodySize (d .kind) → sendsOf (lineState (Rom r)) (d .kind) (d .body) ≡ true) → Sized (map device ms)
+    → levelOf (Slot sent) (stands (lineState (Rom r)) ms) ≡ sent
 unfolding levelOf
 slot-level r sent ms f z = rw (none-low r ms f z) (sent-alone sent)
 
@@ -156,14 +156,14 @@ moved k bit (inactive d) = inactive d
 
 -- to its next bit, or after the last to the memory command
 abbrev pub nextBit : ℕ → LineState
-nextBit k = stateOf (cond (ltb k 63) (Rom (Search (k + 1) Bit)) addressed)
+nextBit k = lineState (cond (ltb k 63) (Rom (Search (k + 1) Bit)) addressed)
 
 direction-steps : (k : ℕ) (bit : Bool) (d : Device) → k < 64 → length (d .body) ≡ bodySize (d .kind)
-    → stateAfter (searching k Direction) (d .kind) (d .body) bit ≡ stateOf (cond (Bool·beq (bitAt (d .body) k) bit) (cond (ltb k 63) (Rom (Search (k + 1) Bit)) addressed) waiting)
+    → stateAfterSlot (searching k Direction) (d .kind) (d .body) bit ≡ lineState (cond (Bool·beq (bitAt (d .body) k) bit) (cond (ltb k 63) (Rom (Search (k + 1) Bit)) addressed) waiting)
 unfolding romRange romStep afterSearch afterDirection
 direction-steps k bit d low h = rom-step (Search k Direction) (d .kind) (d .body) h (lt-ltb k 64 low) bit
 
-choose-member : (same : Bool) (s : Stage) (d : Device) → inState (stateOf (cond same s waiting)) d ≡ standing (stateOf s) (cond same (active d) (inactive d))
+choose-member : (same : Bool) (s : Stage) (d : Device) → inState (lineState (cond same s waiting)) d ≡ standing (lineState s) (cond same (active d) (inactive d))
 choose-member true s d = refl
 choose-member false s d = refl
 
@@ -183,7 +183,7 @@ direction-after k bit (inactive d ∷ ms) low z =
 pub next-bit : (k : ℕ) → k < 63 → nextBit k ≡ searching (suc k) Bit
 next-bit k h = rw (lt-ltb k 63 h, add-one)
 
-pub last-bit : nextBit 63 ≡ stateOf addressed
+pub last-bit : nextBit 63 ≡ lineState addressed
 last-bit = refl
 
 -- the same devices are there
@@ -215,13 +215,13 @@ moved-rests k m false (inactive d ∷ ms) = moved-rests k m false ms
 
 -- a line state in which a reset changes no body
 abbrev pub Unwritten : LineState → Type 0
-Unwritten s = (kind : Kind) (body : List ℕ) → resetBody s kind body ≡ body
+Unwritten s = (kind : Kind) (body : List ℕ) → bodyAfterReset s kind body ≡ body
 
-pub rom-unwritten : (r : RomStage) → Unwritten (stateOf (Rom r))
+pub rom-unwritten : (r : RomStage) → Unwritten (lineState (Rom r))
 rom-unwritten r kind body = rom-reset r kind body
 
-pub addressed-unwritten : Unwritten (stateOf addressed)
-unfolding resetBody taken stageReset memoryReset
+pub addressed-unwritten : Unwritten (lineState addressed)
+unfolding bodyAfterReset taken stageReset memoryReset
 addressed-unwritten kind body = choose (eqb (length body) (bodySize kind) && stageRange addressed kind)
   where
     choose : (t : Bool) → stageReset (cond t addressed waiting) body ≡ body
@@ -244,14 +244,14 @@ all-rests k m (d ∷ ds) = ap (λ (cs : List Code). bitsFrom (d .body) k m ∷ c
 
 -- a bit of the command
 abbrev pub commanded : ℕ → ℕ → LineState
-commanded bits value = stateOf (Rom (Command bits value))
+commanded bits value = lineState (Rom (Command bits value))
 
 pub command-level : (bits value : ℕ) (sent : Bool) (ms : List Member) → bits < 8 → Sized (map device ms) → levelOf (Slot sent) (stands (commanded bits value) ms) ≡ sent
 unfolding romRange romSends
 command-level bits value sent ms low z = slot-level (Command bits value) sent ms (λ d h. rom-sends (Command bits value) (d .kind) (d .body) h (lt-ltb bits 8 low)) z
 
 pub command-after : (bits value : ℕ) (sent : Bool) (ms : List Member) → bits < 8 → Sized (map device ms)
-    → map (nextDevice (Slot sent) sent) (stands (commanded bits value) ms) ≡ stands (stateOf (afterCommand bits value sent)) ms
+    → map (nextDevice (Slot sent) sent) (stands (commanded bits value) ms) ≡ stands (lineState (afterCommand bits value sent)) ms
 unfolding romRange romStep
 command-after bits value sent ms low z =
-    slot-all (Command bits value) (stateOf (afterCommand bits value sent)) sent sent ms (λ d h. rom-step (Command bits value) (d .kind) (d .body) h (lt-ltb bits 8 low) sent) z
+    slot-all (Command bits value) (lineState (afterCommand bits value sent)) sent sent ms (λ d h. rom-step (Command bits value) (d .kind) (d .body) h (lt-ltb bits 8 low) sent) z

@@ -8,10 +8,11 @@ use native.Mathlib.Nat.{le-of-suc-le-suc, not-suc-le-zero, suc-inj}
 use native.Mathlib.Omega.{arith}
 use lib.ListN.{length, getD, take}
 use lib.Dec.{eqb}
+use Rattle.bits.specs.Bit.{levelByte}
 use Rattle.master.specs.declared.Master.{Master}
-use Rattle.master.specs.Master.{Said, event, end, says, after, nextOf}
+use Rattle.master.specs.Master.{Said, event, end, says, afterLevel, nextOf}
 use Rattle.master.specs.Drive.{lastFrom, sent, eventsFrom, codeCompleted, codesFrom}
-use Rattle.bus.specs.Bus.{Device, eventOf, levelOf, nextDevice, busStepAt, busStep, answerByte, withAnswer, runTrace}
+use Rattle.bus.specs.Bus.{Device, eventOf, levelOf, nextDevice, busStepAt, busStep, withAnswer, runTrace}
 use Rattle.discovery.proofs.Codes.{differ}
 use Rattle.discovery.specs.Search.{Search, stopped, preceded, exchange, searchFrom}
 
@@ -25,7 +26,7 @@ pub data Driven : Master → List Device → List ℕ → List ℕ → Master �
   on : {m n r : Master} {ds es fs : List Device} {e : ℕ} {level : Bool} {code trace codes : List ℕ}
       → says m ≡ event e
       → levelOf (eventOf e) ds ≡ level
-      → after m level ≡ n
+      → afterLevel m level ≡ n
       → map (nextDevice (eventOf e) level) ds ≡ es
       → bodies es ≡ bodies ds
       → codeCompleted (m .passes) n ≡ code
@@ -37,20 +38,20 @@ follow here q = q
 follow {d = d} (on {code = code} {codes = codes} s l a w b c p) q = rw (append-assoc code codes d) (on s l a w b c (follow p q))
 
 -- a level is known by its byte
-pub level-byte : (level : Bool) → not (eqb (answerByte level) 0) ≡ level
-unfolding answerByte
+pub level-byte : (level : Bool) → not (eqb (levelByte level) 0) ≡ level
+unfolding levelByte
 level-byte true = refl
 level-byte false = refl
 
-pub next-is : (m : Master) (level : Bool) → nextOf m (answerByte level) ≡ after m level
-next-is m level = ap (after m) (level-byte level)
+pub next-is : (m : Master) (level : Bool) → nextOf m (levelByte level) ≡ afterLevel m level
+next-is m level = ap (afterLevel m) (level-byte level)
 
 -- the run of an event and a trace
 abbrev answersTo : List ℕ → List Device → List ℕ
 answersTo trace ds = runTrace trace ds .answers
 
 run-answers : (e : ℕ) (trace : List ℕ) (ds es : List Device) (level : Bool) → levelOf (eventOf e) ds ≡ level → map (nextDevice (eventOf e) level) ds ≡ es
-    → answersTo (e ∷ trace) ds ≡ answerByte level ∷ answersTo trace es
+    → answersTo (e ∷ trace) ds ≡ levelByte level ∷ answersTo trace es
 unfolding runTrace busStep busStepAt withAnswer
 run-answers e trace ds es level l w = rw (l, w)
 
@@ -94,20 +95,20 @@ unfolding runTrace eventsFrom sent
 driven-events x here z = ap (λ (y : Said). sent y []) z
 driven-events x (on {m = m} {n = n} {ds = ds} {es = es} {e = e} {level = level} {trace = trace} s l a w b c p) z =
     ap (eventsFrom m) (run-answers e trace ds es level l w)
-    ∙ ap (λ (y : Said). sent y (eventsFrom (nextOf m (answerByte level)) (answersTo trace es))) s
+    ∙ ap (λ (y : Said). sent y (eventsFrom (nextOf m (levelByte level)) (answersTo trace es))) s
     ∙ ap (λ (y : Master). e ∷ eventsFrom y (answersTo trace es)) (next-is m level ∙ a) ∙ ap (λ (y : List ℕ). e ∷ y) (driven-events x p z)
 
 -- ---- the search
 
 exchanged : (m n : Master) (ds es : List Device) (e : ℕ) (level : Bool) (rest : Master → List Device → Search) → says m ≡ event e → levelOf (eventOf e) ds ≡ level
-    → after m level ≡ n → map (nextDevice (eventOf e) level) ds ≡ es
-    → exchange (says m) m ds rest ≡ preceded e (answerByte level) (codeCompleted (m .passes) n) (rest n es)
+    → afterLevel m level ≡ n → map (nextDevice (eventOf e) level) ds ≡ es
+    → exchange (says m) m ds rest ≡ preceded e (levelByte level) (codeCompleted (m .passes) n) (rest n es)
 unfolding exchange busStep busStepAt
 exchanged m n ds es e level rest s l a w =
     ap (λ (y : Said). exchange y m ds rest) s
-    ∙ ap (λ (y : Bool). preceded e (answerByte y) (codeCompleted (m .passes) (nextOf m (answerByte y))) (rest (nextOf m (answerByte y)) (map (nextDevice (eventOf e) y) ds))) l
-    ∙ ap (λ (y : Master). preceded e (answerByte level) (codeCompleted (m .passes) y) (rest y (map (nextDevice (eventOf e) level) ds))) (next-is m level ∙ a)
-    ∙ ap (λ (y : List Device). preceded e (answerByte level) (codeCompleted (m .passes) n) (rest n y)) w
+    ∙ ap (λ (y : Bool). preceded e (levelByte y) (codeCompleted (m .passes) (nextOf m (levelByte y))) (rest (nextOf m (levelByte y)) (map (nextDevice (eventOf e) y) ds))) l
+    ∙ ap (λ (y : Master). preceded e (levelByte level) (codeCompleted (m .passes) y) (rest y (map (nextDevice (eventOf e) level) ds))) (next-is m level ∙ a)
+    ∙ ap (λ (y : List Device). preceded e (levelByte level) (codeCompleted (m .passes) n) (rest n y)) w
 
 -- with a budget for all events it is the drive to the master's end
 pub driven-search : {m r : Master} {ds fs : List Device} {t c : List ℕ} (x most : ℕ) → Driven m ds t c r fs → says r ≡ end x → length t ≤ most
@@ -118,10 +119,10 @@ driven-search {r = r} {fs = fs} x (suc most) here z h = ap (λ (y : Said). excha
 driven-search x zero (on s l a w b c p) z h = absurd (not-suc-le-zero h)
 driven-search {r = r} {fs = fs} x (suc most) (on {m = m} {n = n} {ds = ds} {es = es} {e = e} {level = level} {code = code} {trace = trace} {codes = codes} s l a w b c p) z h =
     let rest = driven-search x most p z (le-of-suc-le-suc h) in
-    let seen : answersTo (e ∷ trace) ds ≡ answerByte level ∷ answersTo trace es = run-answers e trace ds es level l w in
+    let seen : answersTo (e ∷ trace) ds ≡ levelByte level ∷ answersTo trace es = run-answers e trace ds es level l w in
     exchanged m n ds es e level (searchFrom most) s l a w
-    ∙ ap (λ (y : Search). preceded e (answerByte level) (codeCompleted (m .passes) n) y) rest
-    ∙ ap (λ (y : List ℕ). record { trace = e ∷ trace; levels = answerByte level ∷ answersTo trace es; codes = y ++ codes; master = r; devices = fs }) c
+    ∙ ap (λ (y : Search). preceded e (levelByte level) (codeCompleted (m .passes) n) y) rest
+    ∙ ap (λ (y : List ℕ). record { trace = e ∷ trace; levels = levelByte level ∷ answersTo trace es; codes = y ++ codes; master = r; devices = fs }) c
     ∙ ap (λ (y : List ℕ). record { trace = e ∷ trace; levels = y; codes = code ++ codes; master = r; devices = fs }) (sym seen)
 
 -- ---- step by step
@@ -134,11 +135,11 @@ driven-first (on s l a w b c p) h = s
 abbrev steppedAt : Master → List ℕ → ℕ → Master
 steppedAt m levels i = nextOf (lastFrom m (take i levels)) (getD levels i 0)
 
-stepped-first : (m : Master) (level : Bool) (levels : List ℕ) → steppedAt m (answerByte level ∷ levels) 0 ≡ after m level
+stepped-first : (m : Master) (level : Bool) (levels : List ℕ) → steppedAt m (levelByte level ∷ levels) 0 ≡ afterLevel m level
 unfolding lastFrom
 stepped-first m level levels = next-is m level
 
-stepped-later : (m : Master) (level : Bool) (levels : List ℕ) (i : ℕ) → steppedAt m (answerByte level ∷ levels) (suc i) ≡ steppedAt (after m level) levels i
+stepped-later : (m : Master) (level : Bool) (levels : List ℕ) (i : ℕ) → steppedAt m (levelByte level ∷ levels) (suc i) ≡ steppedAt (afterLevel m level) levels i
 unfolding lastFrom
 stepped-later m level levels i = ap (λ (y : Master). steppedAt y levels i) (next-is m level)
 
@@ -177,12 +178,12 @@ pub record Goes (e : ℕ) (m r : Master) (ds fs : List Device) (t c : List ℕ) 
   pub events : List ℕ
   pub codes : List ℕ
   pub trace-is : t ≡ e ∷ events
-  pub codes-are : c ≡ codeCompleted (m .passes) (after m level) ++ codes
+  pub codes-are : c ≡ codeCompleted (m .passes) (afterLevel m level) ++ codes
   pub same : bodies (map (nextDevice (eventOf e) level) ds) ≡ bodies ds
-  pub rest : Driven (after m level) (map (nextDevice (eventOf e) level) ds) events codes r fs
+  pub rest : Driven (afterLevel m level) (map (nextDevice (eventOf e) level) ds) events codes r fs
 
 sent-once : {m n r : Master} {ds es fs : List Device} {e f : ℕ} {level : Bool} {code trace codes : List ℕ} → f ≡ e
-    → levelOf (eventOf e) ds ≡ level → after m level ≡ n → map (nextDevice (eventOf e) level) ds ≡ es → bodies es ≡ bodies ds
+    → levelOf (eventOf e) ds ≡ level → afterLevel m level ≡ n → map (nextDevice (eventOf e) level) ds ≡ es → bodies es ≡ bodies ds
     → codeCompleted (m .passes) n ≡ code → Driven n es trace codes r fs → Goes f m r ds fs (e ∷ trace) (code ++ codes)
 sent-once {m} {n} {r} {ds} {es} {fs} {e} {f} {level} {code} {trace} {codes} same l a w b c p = rw same (record {
   level = level;

@@ -6,15 +6,16 @@ use mathlib.Core.Bool.{Bool}
 use mathlib.Core.List.{List, [], _∷_, _++_, map, append-nil, append-assoc}
 use native.Mathlib.Omega.{arith}
 use lib.ListN.{length, replicate, length-append, length-map, length-replicate}
+use Rattle.bits.specs.Bit.{levelByte}
 use Rattle.image.specs.Image.{countOf, kindAt, bodyAt}
 use Rattle.image.specs.Refusal.{imageRefusal}
 use Rattle.device.specs.declared.LineState.{LineState}
 use Rattle.device.specs.Device.{waitingState}
 use Rattle.bus.specs.declared.Event.{Event}
-use Rattle.bus.specs.Bus.{Device, deviceOf, eventOf, levelOf, nextState, nextBody, nextDevice, answerByte}
+use Rattle.bus.specs.Bus.{Device, deviceWith, eventOf, levelOf, nextState, nextBody, nextDevice}
 use Rattle.bus.specs.Run.{devicesFrom, waitingDevices}
 use Rattle.master.specs.declared.Master.{Master}
-use Rattle.master.specs.Master.{event, end, says, after, nextOf}
+use Rattle.master.specs.Master.{event, end, says, afterLevel, nextOf}
 use Rattle.master.specs.Drive.{started, codeCompleted}
 use Rattle.discovery.specs.Search.{searchOf}
 use Rattle.discovery.specs.Words.{Bytes}
@@ -50,7 +51,7 @@ unfolding devicesFrom nextDevice
 lines-next image i [] e level b = refl
 lines-next image i (s ∷ lines) e level b =
     let rest = lines-next image (suc i) lines e level (cc) in
-    let own : nextBody e level (deviceOf (kindAt image i) (bodyAt image i) s) ≡ bodyAt image i = cc in
+    let own : nextBody e level (deviceWith (kindAt image i) (bodyAt image i) s) ≡ bodyAt image i = cc in
     cc
 
 devices-size : (image : List ℕ) (i : ℕ) (lines : List LineState) → length (devicesFrom image i lines) ≡ length lines
@@ -88,22 +89,22 @@ module _ (image : List ℕ) (searched : Searched image (searchOf image)) {m : Ma
 
   -- it is sent, the devices answer, and the master is stepped with their level
   pub going-on : (e : ℕ) → Going image m lines trace codes → says m ≡ event e
-      → Going image (nextOf m (answerByte (levelIn image lines e))) (linesAfter image lines e) (trace ++ e ∷ [])
-      (codes ++ codeCompleted (m .passes) (nextOf m (answerByte (levelIn image lines e))))
+      → Going image (nextOf m (levelByte (levelIn image lines e))) (linesAfter image lines e) (trace ++ e ∷ [])
+      (codes ++ codeCompleted (m .passes) (nextOf m (levelByte (levelIn image lines e))))
   going-on e g h =
       let ds = devicesFrom image 0 lines in
       let r = driven-goes e 0 (g .driven) (searched .ended) h in
-      let next : nextOf m (answerByte (levelIn image lines e)) ≡ after m (levelIn image lines e) = next-is m (levelIn image lines e) in
+      let next : nextOf m (levelByte (levelIn image lines e)) ≡ afterLevel m (levelIn image lines e) = next-is m (levelIn image lines e) in
       let same : bodies (map (nextDevice (eventOf e) (levelIn image lines e)) ds) ≡ bodies ds = rw (r .is-level) (r .same) in
-      let step : Driven (after m (levelIn image lines e)) (map (nextDevice (eventOf e) (levelIn image lines e)) ds) (r .events) (r .codes) (searchOf image .master) (searchOf image .devices) = rw (r .is-level) (r .rest) in
+      let step : Driven (afterLevel m (levelIn image lines e)) (map (nextDevice (eventOf e) (levelIn image lines e)) ds) (r .events) (r .codes) (searchOf image .master) (searchOf image .devices) = rw (r .is-level) (r .rest) in
       record {
         events = r .events;
         found = r .codes;
-        driven = rw next (subst (λ (es : List Device). Driven (after m (levelIn image lines e)) es (r .events) (r .codes) (searchOf image .master) (searchOf image .devices))
+        driven = rw next (subst (λ (es : List Device). Driven (afterLevel m (levelIn image lines e)) es (r .events) (r .codes) (searchOf image .master) (searchOf image .devices))
             (lines-next image 0 lines (eventOf e) (levelIn image lines e) same) step);
         sent = append-assoc trace (e ∷ []) (r .events) ∙ ap (λ (t : List ℕ). trace ++ t) (sym (r .trace-is)) ∙ g .sent;
-        written = rw next (append-assoc codes (codeCompleted (m .passes) (after m (levelIn image lines e))) (r .codes)
-            ∙ ap (λ (t : List ℕ). codes ++ t) (ap (λ (b : Bool). codeCompleted (m .passes) (after m b) ++ r .codes) (r .is-level) ∙ sym (r .codes-are)) ∙ g .written);
+        written = rw next (append-assoc codes (codeCompleted (m .passes) (afterLevel m (levelIn image lines e))) (r .codes)
+            ∙ ap (λ (t : List ℕ). codes ++ t) (ap (λ (b : Bool). codeCompleted (m .passes) (afterLevel m b) ++ r .codes) (r .is-level) ∙ sym (r .codes-are)) ∙ g .written);
         each = simp length-map (devices-size image 0 lines ∙ g .each);
       }
 

@@ -14,7 +14,7 @@ use Rattle.master.specs.declared.Stage.the-variants.{Reset, Command, FirstRead,
 use Rattle.master.specs.declared.Discrepancy.{Discrepancy}
 use Rattle.master.specs.declared.Discrepancy.the-variants.{None, At}
 use Rattle.master.specs.declared.Master.{Master}
-use Rattle.master.specs.Master.{noBits, withStage, stageInRange, inRange, afterReset, afterCommand, atDiscrepancy, sendDirection, openAfter, afterReads, completed, afterPass, passEnd, afterDirection, stageAfter, after}
+use Rattle.master.specs.Master.{noBits, withStage, stageInRange, inRange, afterReset, afterCommand, atDiscrepancy, sendDirection, openAfter, afterReads, completed, afterPass, passEnd, afterDirection, stepByStage, afterLevel}
 use Rattle.master.specs.Drive.{codeCompleted}
 use Rattle.master.proofs.Laws.{goes-by-stage}
 use Rattle.discovery.proofs.Codes.{differ}
@@ -30,26 +30,26 @@ marked true k opened = At k
 marked false k opened = opened
 
 module _ (p : ℕ) (code : List ℕ) (opened : Discrepancy) (previous : List ℕ) (last : Discrepancy) (few : p < 64) where
-  pub reset-step : after (masterOf Reset p code opened previous last) false ≡ masterOf (Command 0) p code opened previous last
-  unfolding inRange stageInRange stageAfter afterReset withStage
+  pub reset-step : afterLevel (masterOf Reset p code opened previous last) false ≡ masterOf (Command 0) p code opened previous last
+  unfolding inRange stageInRange stepByStage afterReset withStage
   reset-step = goes-by-stage (masterOf Reset p code opened previous last) Reset false refl (lt-ltb p 64 few)
 
   command-in : (at : ℕ) → at < 8 → inRange (masterOf (Command at) p code opened previous last) ≡ true
   unfolding inRange stageInRange
   command-in at h = rw (lt-ltb at 8 h, lt-ltb p 64 few)
 
-  pub command-step : (at : ℕ) (level : Bool) → at < 7 → after (masterOf (Command at) p code opened previous last) level ≡ masterOf (Command (at + 1)) p code opened previous last
-  unfolding stageAfter afterCommand withStage
+  pub command-step : (at : ℕ) (level : Bool) → at < 7 → afterLevel (masterOf (Command at) p code opened previous last) level ≡ masterOf (Command (at + 1)) p code opened previous last
+  unfolding stepByStage afterCommand withStage
   command-step at level h =
       goes-by-stage (masterOf (Command at) p code opened previous last) (Command at) level refl (command-in at (omega arith)) ∙ rw (lt-ltb at 7 h)
 
-  pub command-last : (level : Bool) → after (masterOf (Command 7) p code opened previous last) level ≡ masterOf (FirstRead 0) p code opened previous last
-  unfolding stageAfter afterCommand withStage
+  pub command-last : (level : Bool) → afterLevel (masterOf (Command 7) p code opened previous last) level ≡ masterOf (FirstRead 0) p code opened previous last
+  unfolding stepByStage afterCommand withStage
   command-last level = goes-by-stage (masterOf (Command 7) p code opened previous last) (Command 7) level refl (command-in 7 (omega arith))
 
   module _ (k : ℕ) (low : k < 64) where
-    pub first-step : (level : Bool) → after (masterOf (FirstRead k) p code opened previous last) level ≡ masterOf (SecondRead k level) p code opened previous last
-    unfolding inRange stageInRange stageAfter withStage
+    pub first-step : (level : Bool) → afterLevel (masterOf (FirstRead k) p code opened previous last) level ≡ masterOf (SecondRead k level) p code opened previous last
+    unfolding inRange stageInRange stepByStage withStage
     first-step level =
         goes-by-stage (masterOf (FirstRead k) p code opened previous last) (FirstRead k) level refl (rw (lt-ltb k 64 low, lt-ltb p 64 few))
 
@@ -70,9 +70,9 @@ module _ (p : ℕ) (code : List ℕ) (opened : Discrepancy) (previous : List ℕ
         choose false = refl
 
     pub second-step : (first second bit : Bool) → (first && second) ≡ false → bit ≡ direction first second (atDiscrepancy last previous k)
-        → after (masterOf (SecondRead k first) p code opened previous last) second
+        → afterLevel (masterOf (SecondRead k first) p code opened previous last) second
         ≡ masterOf (Direction k bit) p (putBit code k bit) (marked (leaves-open first second bit) k opened) previous last
-    unfolding inRange stageInRange stageAfter
+    unfolding inRange stageInRange stepByStage
     second-step first second bit e b =
         goes-by-stage (masterOf (SecondRead k first) p code opened previous last) (SecondRead k first) second refl (rw (lt-ltb k 64 low, lt-ltb p 64 few))
         ∙ rw b (reads first second e)
@@ -81,15 +81,15 @@ module _ (p : ℕ) (code : List ℕ) (opened : Discrepancy) (previous : List ℕ
     unfolding inRange stageInRange
     direction-in bit = rw (lt-ltb k 64 low, lt-ltb p 64 few)
 
-    pub direction-step : (bit level : Bool) → k < 63 → after (masterOf (Direction k bit) p code opened previous last) level ≡ masterOf (FirstRead (suc k)) p code opened previous last
-    unfolding stageAfter afterDirection withStage
+    pub direction-step : (bit level : Bool) → k < 63 → afterLevel (masterOf (Direction k bit) p code opened previous last) level ≡ masterOf (FirstRead (suc k)) p code opened previous last
+    unfolding stepByStage afterDirection withStage
     direction-step bit level h =
         goes-by-stage (masterOf (Direction k bit) p code opened previous last) (Direction k bit) level refl (direction-in bit) ∙ rw (lt-ltb k 63 h, add-one)
 
     -- the end of a pass whose code the registration check takes: none open ends the search, else there is one more pass
     pub completes : (bit level : Bool) → k ≡ 63 → registered code ≡ true
-        → after (masterOf (Direction k bit) p code opened previous last) level ≡ masterOf (afterPass opened (p + 1)) (p + 1) noBits None code opened
-    unfolding stageAfter afterDirection passEnd completed
+        → afterLevel (masterOf (Direction k bit) p code opened previous last) level ≡ masterOf (afterPass opened (p + 1)) (p + 1) noBits None code opened
+    unfolding stepByStage afterDirection passEnd completed
     completes bit level e r =
         goes-by-stage (masterOf (Direction k bit) p code opened previous last) (Direction k bit) level refl (direction-in bit) ∙ rw (le-ltb k 63 (omega arith), r)
 

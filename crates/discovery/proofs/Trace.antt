@@ -10,7 +10,7 @@ use lib.Seq.{take-at, drop-at, drop-drop}
 use lib.Dec.{eqb}
 use Rattle.bus.specs.Refusal.{someByte}
 use Rattle.master.specs.Master.{slot}
-use Rattle.discovery.specs.Words.{Precedes, codeNumber, isReset, isSlot, resetsIn, slotsIn, slotNext, passesIn, Pass, Passes, directions, passCode, passCodes}
+use Rattle.discovery.specs.Words.{Precedes, codeWritten, isReset, isSlot, resetsIn, slotsIn, slotNext, passesIn, Pass, Passes, directions, passCode, passCodes}
 use Rattle.discovery.proofs.Codes.{Code, Wide, Before, Sorted}
 use Rattle.discovery.proofs.Bits.{bytesOf, bytes-size, bytes-bit}
 use Rattle.discovery.proofs.Walk.{bitEvents, passTrace}
@@ -152,15 +152,15 @@ pub codes-size : (L : List Code) → length (bytesAll L) ≡ 8 * length L
 codes-size [] = refl
 codes-size (c ∷ L) = let h = codes-size L in let e = bytes-size c in length-append (bytesOf c) (bytesAll L) ∙ omega arith
 
-pub code-number : (L : List Code) (k : ℕ) → k < length L → codeNumber (bytesAll L) k ≡ bytesOf (getD L k [])
-unfolding codeNumber
-code-number [] k h = absurd (omega arith)
-code-number (c ∷ L) zero h = take-at (bytesOf c) (bytesAll L) 8 (bytes-size c)
-code-number (c ∷ L) (suc k) h =
+pub code-written : (L : List Code) (k : ℕ) → k < length L → codeWritten (bytesAll L) k ≡ bytesOf (getD L k [])
+unfolding codeWritten
+code-written [] k h = absurd (omega arith)
+code-written (c ∷ L) zero h = take-at (bytesOf c) (bytesAll L) 8 (bytes-size c)
+code-written (c ∷ L) (suc k) h =
     let n : 8 * suc k ≡ 8 + 8 * k = omega arith in
     let d : drop (8 + 8 * k) (bytesOf c ++ bytesAll L) ≡ drop (8 * k) (bytesAll L) =
     sym (drop-drop (8 * k) 8 (bytesOf c ++ bytesAll L)) ∙ ap (drop (8 * k)) (drop-at (bytesOf c) (bytesAll L) 8 (bytes-size c)) in
-    ap (λ (x : ℕ). take 8 (drop x (bytesOf c ++ bytesAll L))) n ∙ ap (take 8) d ∙ code-number L k (le-of-suc-le-suc h)
+    ap (λ (x : ℕ). take 8 (drop x (bytesOf c ++ bytesAll L))) n ∙ ap (take 8) d ∙ code-written L k (le-of-suc-le-suc h)
 
 -- ---- places in a list of codes
 
@@ -205,7 +205,7 @@ sorted-at (c ∷ L) s i zero p q = absurd (omega arith)
 sorted-at (c ∷ L) s zero (suc j) p q = s .0 (getD L j []) (at-member L j (le-of-suc-le-suc q))
 sorted-at (c ∷ L) s (suc i) (suc j) p q = sorted-at L (s .1) i j (le-of-suc-le-suc p) (le-of-suc-le-suc q)
 
-pub codes-order : (L : List Code) → Wide 64 L → Sorted L → (i j : ℕ) → i < j → j < length L → Precedes (codeNumber (bytesAll L) i) (codeNumber (bytesAll L) j)
+pub codes-order : (L : List Code) → Wide 64 L → Sorted L → (i j : ℕ) → i < j → j < length L → Precedes (codeWritten (bytesAll L) i) (codeWritten (bytesAll L) j)
 codes-order L w s i j p q =
     let a = getD L i [] in
     let b = getD L j [] in
@@ -213,7 +213,7 @@ codes-order L w s i j p q =
     let wa : length a ≡ 64 = w a (at-member L i (omega arith)) in
     let wb : length b ≡ 64 = w b (at-member L j q) in
     let low : e .bit < 64 = let h = e .inside in omega arith in
-    rw (code-number L i (omega arith), code-number L j q) (record {
+    rw (code-written L i (omega arith), code-written L j q) (record {
       lowest = e .bit;
       inside = low;
       agree = λ k h. bytes-bit a k wa (omega arith) ∙ e .agree k h ∙ sym (bytes-bit b k wb (omega arith));

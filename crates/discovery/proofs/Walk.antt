@@ -11,7 +11,7 @@ use Rattle.bits.specs.Crc.{registered}
 use Rattle.line.specs.declared.SearchSlot.the-variants.{Bit}
 use Rattle.rom.specs.Rom.{addressed, romCommand, afterCommand}
 use Rattle.device.specs.declared.LineState.{LineState}
-use Rattle.device.specs.Device.{stateOf, resetState}
+use Rattle.device.specs.Device.{lineState, resetState}
 use Rattle.device.proofs.Laws.{searching}
 use Rattle.bus.specs.declared.Event.{Event}
 use Rattle.bus.specs.declared.Event.the-variants as events
@@ -20,7 +20,7 @@ use Rattle.master.specs.declared.Stage.the-variants.{Reset, Command, FirstRead,
 use Rattle.master.specs.declared.Discrepancy.{Discrepancy}
 use Rattle.master.specs.declared.Discrepancy.the-variants.{None, At}
 use Rattle.master.specs.declared.Master.{Master}
-use Rattle.master.specs.Master.{event, slot, readSlot, reset, said, answerOf as answerIn, says, noBits, atDiscrepancy, afterPass, after}
+use Rattle.master.specs.Master.{event, slot, readSlot, reset, said, answerOf as answerIn, says, noBits, atDiscrepancy, afterPass, afterLevel}
 use Rattle.master.specs.Drive.{codeCompleted}
 use Rattle.discovery.specs.Words.{putBits}
 use Rattle.discovery.proofs.Codes.{Code, branch, differ}
@@ -111,7 +111,7 @@ slot-event false = refl
 on-slot : {m n r : Master} {ds es fs : List Device} {level : Bool} {code trace codes : List ℕ} (bit : Bool)
     → says m ≡ event (slot bit)
     → levelOf (events.Slot bit) ds ≡ level
-    → after m level ≡ n
+    → afterLevel m level ≡ n
     → map (nextDevice (events.Slot bit) level) ds ≡ es
     → bodies es ≡ bodies ds
     → codeCompleted (m .passes) n ≡ code
@@ -143,7 +143,7 @@ module _ (p : ℕ) (few : p < 64) (c : Code) (previous : List ℕ) (last : Discr
       → k < 64 → Sized (map device ms)
       → silent (rests k (suc m) ms) ≡ false
       → d ≡ sent (rests k (suc m) ms) (atDiscrepancy last previous k)
-      → after (masterOf (Direction k d) p (putBit code k d) (marked (opens (rests k (suc m) ms) d) k opened) previous last) d ≡ n
+      → afterLevel (masterOf (Direction k d) p (putBit code k d) (marked (opens (rests k (suc m) ms) d) k opened) previous last) d ≡ n
       → codeCompleted p n ≡ done
       → Driven n (stands (nextBit k) (map (moved k d) ms)) trace codes r fs
       → Driven (masterOf (FirstRead k) p code opened previous last) (stands (searching k Bit) ms) (readSlot ∷ readSlot ∷ slot d ∷ trace) (done ++ codes) r fs
@@ -158,7 +158,7 @@ module _ (p : ℕ) (few : p < 64) (c : Code) (previous : List ℕ) (last : Discr
   Rest k ms code opened d h =
       (ns : List Member)
       × Driven (masterOf (FirstRead k) p code opened previous last) (stands (searching k Bit) ms) (bitEvents d) (putBits code k d)
-      (masterOf (afterPass (merged k h opened) (p + 1)) (p + 1) noBits None (putBits code k d) (merged k h opened)) (stands (stateOf addressed) ns)
+      (masterOf (afterPass (merged k h opened) (p + 1)) (p + 1) noBits None (putBits code k d) (merged k h opened)) (stands (lineState addressed) ns)
       × (map device ns ≡ map device ms)
 
   -- the last bit completes the code
@@ -170,16 +170,16 @@ module _ (p : ℕ) (few : p < 64) (c : Code) (previous : List ℕ) (last : Discr
   unfolding putBits
   rest-last k ms code opened x q h d e z nc xe qe de me r =
       let good : registered (putBit code k x) ≡ true = rw de at r in
-      let same : nextBit k ≡ stateOf addressed = ap nextBit e ∙ last-bit in
+      let same : nextBit k ≡ lineState addressed = ap nextBit e ∙ last-bit in
       let ns = map (moved k x) ms in
       let end = masterOf (afterPass q (p + 1)) (p + 1) noBits None (putBit code k x) q in
-      let step : after (masterOf (Direction k x) p (putBit code k x) (marked (opens (rests k 1 ms) x) k opened) previous last) x ≡ end =
+      let step : afterLevel (masterOf (Direction k x) p (putBit code k x) (marked (opens (rests k 1 ms) x) k opened) previous last) x ≡ end =
       rw (← qe) (completes p (putBit code k x) q previous last few k (omega arith) x x e good) in
-      let go : Driven end (stands (nextBit k) ns) [] [] end (stands (stateOf addressed) ns) = rw same here in
+      let go : Driven end (stands (nextBit k) ns) [] [] end (stands (lineState addressed) ns) = rw same here in
       let whole = bit k 0 ms code opened x (omega arith) z nc xe step (one-completed p _ _ _ _ _) go in
       rw (de, ← me) (
         ns,
-        subst (λ (y : List ℕ). Driven (masterOf (FirstRead k) p code opened previous last) (stands (searching k Bit) ms) (bitEvents (x ∷ [])) y end (stands (stateOf addressed) ns)) (append-nil (putBit code k x)) whole,
+        subst (λ (y : List ℕ). Driven (masterOf (FirstRead k) p code opened previous last) (stands (searching k Bit) ms) (bitEvents (x ∷ [])) y end (stands (lineState addressed) ns)) (append-nil (putBit code k x)) whole,
         moved-devices k x ms,
       )
 
@@ -192,7 +192,7 @@ module _ (p : ℕ) (few : p < 64) (c : Code) (previous : List ℕ) (last : Discr
       → Rest (suc k) (map (moved k x) ms) (putBit code k x) q b i → Rest k ms code opened d h
   unfolding putBits
   rest-more k m ms code opened x q h i b d e z nc xe qe de me r =
-      let step : after (masterOf (Direction k x) p (putBit code k x) (marked (opens (rests k (suc m) ms) x) k opened) previous last) x ≡ masterOf (FirstRead (suc k)) p (putBit code k x) q previous last =
+      let step : afterLevel (masterOf (Direction k x) p (putBit code k x) (marked (opens (rests k (suc m) ms) x) k opened) previous last) x ≡ masterOf (FirstRead (suc k)) p (putBit code k x) q previous last =
       rw (← qe) (direction-step p (putBit code k x) q previous last few k (omega arith) x x e) in
       rw (de, ← me) (
         r .0,
@@ -239,7 +239,7 @@ module _ (p : ℕ) (few : p < 64) (c : Code) (previous : List ℕ) (last : Discr
   -- a bit of the command but the last: every device hears the bit that the master sends
   command-slot : (at value : ℕ) (b : Bool) (ms : List Member) (code : List ℕ) (opened : Discrepancy) {r : Master} {fs : List Device} {trace codes : List ℕ}
       → at < 7 → Sized (map device ms) → said (answerIn (Command at)) ≡ event (slot b)
-      → Driven (masterOf (Command (at + 1)) p code opened previous last) (stands (stateOf (afterCommand at value b)) ms) trace codes r fs
+      → Driven (masterOf (Command (at + 1)) p code opened previous last) (stands (lineState (afterCommand at value b)) ms) trace codes r fs
       → Driven (masterOf (Command at) p code opened previous last) (stands (commanded at value) ms) (slot b ∷ trace) codes r fs
   command-slot at value b ms code opened low z s go =
       on-slot b s (command-level at value b ms (omega arith) z) (command-step p code opened previous last few at b low) (command-after at value b ms (omega arith) z) (same-bodies _ _ ms) (none-completed p _ _ _ _ _) go
@@ -271,7 +271,7 @@ module _ (p : ℕ) (few : p < 64) (c : Code) (previous : List ℕ) (last : Discr
       → registered (putBits noBits 0 d) ≡ true
       → (ns : List Member)
       × Driven (masterOf Reset p noBits None previous last) (stands s ms) (passTrace d) (putBits noBits 0 d)
-      (masterOf (afterPass h (p + 1)) (p + 1) noBits None (putBits noBits 0 d) h) (stands (stateOf addressed) ns)
+      (masterOf (afterPass h (p + 1)) (p + 1) noBits None (putBits noBits 0 d) h) (stands (lineState addressed) ns)
       × (map device ns ≡ map device ms)
   unfolding said answerIn eventOf levelOf
   whole-pass s ms {d} {h} u z some f r =

@@ -8,7 +8,7 @@ use lib.ListN.{length, length-map}
 use Rattle.bits.specs.Crc.{registered}
 use Rattle.rom.specs.Rom.{addressed}
 use Rattle.device.specs.declared.LineState.{LineState}
-use Rattle.device.specs.Device.{stateOf}
+use Rattle.device.specs.Device.{lineState}
 use Rattle.bus.specs.Bus.{Device}
 use Rattle.master.specs.declared.Stage.{Stage}
 use Rattle.master.specs.declared.Stage.the-variants.{Reset}
@@ -41,7 +41,7 @@ bytesAll (c ∷ L) = bytesOf c ++ bytesAll L
 pub record Ends (m : Master) (ds es : List Device) (L : List Code) : Type 0 where
   pub master : Master
   pub members : List Member
-  pub driven : Driven m es (traceOf L) (bytesAll L) master (stands (stateOf addressed) members)
+  pub driven : Driven m es (traceOf L) (bytesAll L) master (stands (lineState addressed) members)
   pub ended : says master ≡ end 0
   pub devices : map device members ≡ ds
 
@@ -79,7 +79,7 @@ module _ (ds : List Device) (z : Sized ds) (some : 0 < length ds) where
       let sized : Sized (map device ms) = rw same z in
       let w = whole-pass p (omega arith) c previous f pk s ms u sized (some-members ms ds same some) found-d (taken d (List·Memᴰ·head refl) .1) in
       let left = runs-some r in
-      let rest = passes-drive r (p + 1) d (bytesOf d) (At g) (stateOf addressed) (w .0) refl (λ j h. bytes-bit d j (taken d (List·Memᴰ·head refl) .0) h) addressed-unwritten
+      let rest = passes-drive r (p + 1) d (bytesOf d) (At g) (lineState addressed) (w .0) refl (λ j h. bytes-bit d j (taken d (List·Memᴰ·head refl) .0) h) addressed-unwritten
       (w .2 ∙ same) (λ x h. taken x (List·Memᴰ·tail h)) (omega arith) in
       record {
         master = rest .master;

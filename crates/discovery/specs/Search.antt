@@ -1,10 +1,11 @@
 -- Document 01, 'The searching master': the search. It is the master's step driven by the levels of the bus and nothing else.
 use Prim.Native.Nat.{ℕ, zero, suc, _*_}
 use mathlib.Core.List.{List, [], _∷_, _++_}
+use Rattle.bits.specs.Bit.{levelByte}
 use Rattle.master.specs.declared.Master.{Master}
 use Rattle.master.specs.Master.{mostPasses, Said, event, end, says, nextOf}
 use Rattle.master.specs.Drive.{started, codeCompleted, passEvents}
-use Rattle.bus.specs.Bus.{Device, eventOf, busStep, answerByte}
+use Rattle.bus.specs.Bus.{Device, eventOf, busStep}
 use Rattle.bus.specs.Run.{waitingDevices}
 
 -- the trace sent, the levels that the master saw, the bytes of the codes completed, and the master and the devices that are left
@@ -29,7 +30,7 @@ unfoldable pub exchange : Said → Master → List Device → (Master → List D
 exchange (end number) m ds rest = stopped m ds
 exchange (event e) m ds rest =
     let bus = busStep (eventOf e) ds in
-    let level = answerByte (bus .level) in
+    let level = levelByte (bus .level) in
     preceded e level (codeCompleted (m .passes) (nextOf m level)) (rest (nextOf m level) (bus .devices))
 
 -- so many events at most

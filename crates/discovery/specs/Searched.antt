@@ -10,7 +10,7 @@ use Rattle.bus.specs.Bus.{Run, runTrace}
 use Rattle.device.specs.declared.LineState.{LineState}
 use Rattle.bus.specs.Run.{waitingDevices, statesOf, runOutcome, runOf}
 use Rattle.discovery.specs.Search.{Search}
-use Rattle.discovery.specs.Words.{Valid, Precedes, codeNumber, resetsIn, slotsIn, passesIn, Passes, passCodes}
+use Rattle.discovery.specs.Words.{Valid, Precedes, codeWritten, resetsIn, slotsIn, passesIn, Passes, passCodes}
 
 -- the run of a trace takes the same image, every device waiting
 abbrev pub runOn : List ℕ → List ℕ → Run
@@ -58,11 +58,11 @@ pub record Searched (image : List ℕ) (s : Search) : Type 0 where
   pub written : s .codes ≡ passCodes (s .trace)
   pub size : length (s .codes) ≡ codeBytes * countOf image
   -- every device's code is found, it is valid, no other is found, none twice, and each comes before the next
-  pub complete : (i : ℕ) → i < countOf image → (k : ℕ) × (k < countOf image) × (codeNumber (s .codes) k ≡ codeAt image i)
+  pub complete : (i : ℕ) → i < countOf image → (k : ℕ) × (k < countOf image) × (codeWritten (s .codes) k ≡ codeAt image i)
   pub valid : (i : ℕ) → i < countOf image → Valid image i
-  pub sound : (k : ℕ) → k < countOf image → (i : ℕ) × (i < countOf image) × (codeNumber (s .codes) k ≡ codeAt image i)
-  pub once : (j k : ℕ) → j < k → k < countOf image → codeNumber (s .codes) j ≡ codeNumber (s .codes) k → ⊥
-  pub order : (j k : ℕ) → j < k → k < countOf image → Precedes (codeNumber (s .codes) j) (codeNumber (s .codes) k)
+  pub sound : (k : ℕ) → k < countOf image → (i : ℕ) × (i < countOf image) × (codeWritten (s .codes) k ≡ codeAt image i)
+  pub once : (j k : ℕ) → j < k → k < countOf image → codeWritten (s .codes) j ≡ codeWritten (s .codes) k → ⊥
+  pub order : (j k : ℕ) → j < k → k < countOf image → Precedes (codeWritten (s .codes) j) (codeWritten (s .codes) k)
   -- passes, resets and slots counted in the trace: n, n and 200n; with n = 0: 0, 1, 0
   pub passes : passesIn (s .trace) ≡ countOf image
   pub resets : resetsIn (s .trace) ≡ resetsFor (countOf image)

@@ -30,11 +30,7 @@ pub record Precedes (a b : List ℕ) : Type 0 where
   pub zero-here : bitAt a lowest ≡ false
   pub one-there : bitAt b lowest ≡ true
 
--- of codes written one after another, code k
-unfoldable pub codeNumber : List ℕ → ℕ → List ℕ
-codeNumber codes k = take codeBytes (drop (codeBytes * k) codes)
-
--- ---- counts
+-- ---- passes
 
 -- in a trace, resets are the bytes 2, slots the bytes 0 and 1
 unfoldable pub isReset : ℕ → Bool
@@ -42,25 +38,6 @@ isReset byte = eqb byte reset
 
 unfoldable pub isSlot : ℕ → Bool
 isSlot byte = ltb byte 2
-
-unfoldable pub resetsIn : List ℕ → ℕ
-resetsIn [] = 0
-resetsIn (byte ∷ trace) = cond (isReset byte) 1 0 + resetsIn trace
-
-unfoldable pub slotsIn : List ℕ → ℕ
-slotsIn [] = 0
-slotsIn (byte ∷ trace) = cond (isSlot byte) 1 0 + slotsIn trace
-
--- passes are the resets with a slot right after them
-unfoldable pub slotNext : List ℕ → Bool
-slotNext [] = false
-slotNext (byte ∷ trace) = isSlot byte
-
-unfoldable pub passesIn : List ℕ → ℕ
-passesIn [] = 0
-passesIn (byte ∷ trace) = cond (isReset byte && slotNext trace) 1 0 + passesIn trace
-
--- ---- passes
 
 -- a pass is a reset and the 200 slots after it
 pub record Pass (events : List ℕ) : Type 0 where
@@ -87,7 +64,31 @@ putBits bytes i (bit ∷ bits) = putBits (putBit bytes i bit) (suc i) bits
 unfoldable pub passCode : List ℕ → List ℕ
 passCode slots = putBits noBits 0 (directions codeBits (drop commandBits slots))
 
+-- in a trace, passes are the resets with a slot right after them
+unfoldable pub slotNext : List ℕ → Bool
+slotNext [] = false
+slotNext (byte ∷ trace) = isSlot byte
+
 -- the codes of the passes of a trace, in their order
 unfoldable pub passCodes : List ℕ → List ℕ
 passCodes [] = []
 passCodes (byte ∷ trace) = cond (isReset byte && slotNext trace) (passCode trace) [] ++ passCodes trace
+
+-- of codes written one after another, code k
+unfoldable pub codeWritten : List ℕ → ℕ → List ℕ
+codeWritten codes k = take codeBytes (drop (codeBytes * k) codes)
+
+-- ---- counts
+
+-- the resets, the slots and the passes in a trace
+unfoldable pub resetsIn : List ℕ → ℕ
+resetsIn [] = 0
+resetsIn (byte ∷ trace) = cond (isReset byte) 1 0 + resetsIn trace
+
+unfoldable pub slotsIn : List ℕ → ℕ
+slotsIn [] = 0
+slotsIn (byte ∷ trace) = cond (isSlot byte) 1 0 + slotsIn trace
+
+unfoldable pub passesIn : List ℕ → ℕ
+passesIn [] = 0
+passesIn (byte ∷ trace) = cond (isReset byte && slotNext trace) 1 0 + passesIn trace

@@ -49,15 +49,15 @@ fieldRead ReadMemory = Data
 fieldRead ReadStatus = Status
 fieldRead ReadPages = Data
 
-unfoldable pub readCode : EpromRead → ℕ
-readCode ReadMemory = 0xF0
-readCode ReadStatus = 0xAA
-readCode ReadPages = 0xC3
+unfoldable pub readCommand : EpromRead → ℕ
+readCommand ReadMemory = 0xF0
+readCommand ReadStatus = 0xAA
+readCommand ReadPages = 0xC3
 
 -- 0Fh writes the data, 55h the status
-unfoldable pub writeCode : Field → ℕ
-writeCode Data = 0x0F
-writeCode Status = 0x55
+unfoldable pub writeCommand : Field → ℕ
+writeCommand Data = 0x0F
+writeCommand Status = 0x55
 
 -- a command is followed by its address
 abbrev pub readStart : EpromRead → Stage
@@ -87,15 +87,15 @@ addressBytes address = address % 256 ∷ address / 256 ∷ []
 
 -- the CRC of a command and the two bytes of an address
 unfoldable pub commandCrc : ℕ → ℕ → ℕ
-commandCrc code address = crcOf (code ∷ addressBytes address)
+commandCrc command address = crcOf (command ∷ addressBytes address)
 
 -- the 16th address bit: the address is cut as it is latched, and the CRC uses the cut address bytes
 unfoldable pub readLatch : EpromRead → ℕ → Stage
 readLatch read address =
-    inEprom (ReadCrc read (cut (fieldRead read) address) 0 (commandCrc (readCode read) (cut (fieldRead read) address)))
+    inEprom (ReadCrc read (cut (fieldRead read) address) 0 (commandCrc (readCommand read) (cut (fieldRead read) address)))
 
 unfoldable pub writeLatch : Field → ℕ → Stage
-writeLatch field address = inEprom (WriteData field (cut field address) 0 0 (commandCrc (writeCode field) (cut field address)))
+writeLatch field address = inEprom (WriteData field (cut field address) 0 0 (commandCrc (writeCommand field) (cut field address)))
 
 unfoldable pub readAddressStep : EpromRead → ℕ → ℕ → Bool → Stage
 readAddressStep read bits value level =
@@ -154,15 +154,6 @@ unfoldable pub writeCrcStep : Field → ℕ → ℕ → ℕ → ℕ → Stage
 writeCrcStep field address byte bits register =
     cond (ltb bits 7) (inEprom (WriteCrc field address byte (bits + 1) (register / 2))) (inEprom (PulseDue field address byte))
 
--- the address rises by one, and the register is loaded with its low byte, which is all of it; after the last address the device waits
-unfoldable pub nextAddress : Field → ℕ → Stage
-nextAddress field address =
-    cond (ltb (address + 1) (fieldLength field)) (inEprom (WriteData field (address + 1) 0 0 (address + 1))) waiting
-
--- 8 slots send the stored byte
-unfoldable pub storedStep : Field → ℕ → ℕ → Stage
-storedStep field address bits = cond (ltb bits 7) (inEprom (Stored field address (bits + 1))) (nextAddress field address)
-
 -- page p is protected when bit p of status byte 0 is 0; status bytes take no protection
 unfoldable pub protected : Field → ℕ → List ℕ → Bool
 protected Data address body = not (bitOf (stored Status 0 body) (address / pageLength))
@@ -172,6 +163,15 @@ protected Status address body = false
 unfoldable pub programmed : Field → ℕ → ℕ → List ℕ → List ℕ
 programmed field address byte body =
     cond (protected field address body) body (set body (fieldStart field + address) (bitAnd (stored field address body) byte))
+
+-- the address rises by one, and the register is loaded with its low byte, which is all of it; after the last address the device waits
+unfoldable pub nextAddress : Field → ℕ → Stage
+nextAddress field address =
+    cond (ltb (address + 1) (fieldLength field)) (inEprom (WriteData field (address + 1) 0 0 (address + 1))) waiting
+
+-- 8 slots send the stored byte
+unfoldable pub storedStep : Field → ℕ → ℕ → Stage
+storedStep field address bits = cond (ltb bits 7) (inEprom (Stored field address (bits + 1))) (nextAddress field address)
 
 -- ---- every stage
 

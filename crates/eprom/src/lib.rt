@@ -12,7 +12,7 @@ ghost use mathlib.Core.Path.{_≡_};
 ghost use Prim.Native.Nat.{_-_};
 ghost use Rattle.bits.specs.Slots.{onesWord};
 ghost use Rattle.eprom.specs.Through.{storedBits, fourBits, crcAhead, epromAhead, throughReadAddress, throughReadCrc, throughReadByte, throughWriteAddress, throughWriteData, throughWriteCrc, throughStored, epromThrough};
-ghost use Rattle.eprom.specs.Eprom.{inEprom, readStart, writeStart, fieldStart, fieldLength, fieldRead, readCode, writeCode, epromCommand, cut, commandCrc, readLatch, writeLatch, readAddressStep, writeAddressStep, stored, span, afterCrc, readCrcStep, afterByte, readByteStep, writeDataStep, writeCrcStep, nextAddress, storedStep, protected, programmed, epromRange, epromSends, epromStep, epromPulse, epromProgram};
+ghost use Rattle.eprom.specs.Eprom.{inEprom, readStart, writeStart, fieldStart, fieldLength, fieldRead, readCommand, writeCommand, epromCommand, cut, commandCrc, readLatch, writeLatch, readAddressStep, writeAddressStep, stored, span, afterCrc, readCrcStep, afterByte, readByteStep, writeDataStep, writeCrcStep, nextAddress, storedStep, protected, programmed, epromRange, epromSends, epromStep, epromPulse, epromProgram};
 ghost use Rattle.eprom.specs.View.{fieldsFit, bytesToRead, placeToRead};
 
 // The data, a page of it, and the status, in bytes.
@@ -61,7 +61,7 @@ fn field_read(read: EpromRead) -> Field
 }
 
 fn read_code(read: EpromRead) -> u8
-    ensures { λ r. ⌜ r ≡ readCode read ⌝ }
+    ensures { λ r. ⌜ r ≡ readCommand read ⌝ }
 {
     match read {
         EpromRead::Memory => 0xF0,
@@ -71,7 +71,7 @@ fn read_code(read: EpromRead) -> u8
 }
 
 fn write_code(field: Field) -> u8
-    ensures { λ r. ⌜ r ≡ writeCode field ⌝ }
+    ensures { λ r. ⌜ r ≡ writeCommand field ⌝ }
 {
     match field {
         Field::Data => 0x0F,

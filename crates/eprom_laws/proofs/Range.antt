@@ -15,7 +15,7 @@ use Rattle.line.specs.declared.EpromRead.the-variants.{Memory as ReadMemory, St
 use Rattle.line.specs.declared.EpromStage.{EpromStage}
 use Rattle.line.specs.declared.EpromStage.the-variants.{ReadAddress, ReadCrc, ReadByte, WriteAddress, WriteData, WriteCrc, PulseDue, Stored}
 use Rattle.line.specs.declared.Stage.{Stage}
-use Rattle.eprom.specs.Eprom.{fieldLength, fieldRead, span, epromCommand, cut, commandCrc, readCode, writeCode, readLatch, writeLatch, readAddressStep, writeAddressStep, stored, afterCrc, readCrcStep, afterByte, readByteStep, writeDataStep, writeCrcStep, nextAddress, storedStep, epromRange, epromStep, epromPulse}
+use Rattle.eprom.specs.Eprom.{fieldLength, fieldRead, span, epromCommand, cut, commandCrc, readCommand, writeCommand, readLatch, writeLatch, readAddressStep, writeAddressStep, stored, afterCrc, readCrcStep, afterByte, readByteStep, writeDataStep, writeCrcStep, nextAddress, storedStep, epromRange, epromStep, epromPulse}
 use Rattle.eprom_laws.specs.Events.{Ranged, waits, ranged}
 use Rattle.eprom.proofs.Laws.{both, cut-below}
 
@@ -46,12 +46,12 @@ read-latch-range : (read : EpromRead) (address : ℕ) → Ranged (readLatch read
 unfolding readLatch epromRange
 read-latch-range read address =
     let h : cut (fieldRead read) address ≤ fieldLength (fieldRead read) = omega (arith, cut-below (fieldRead read) address) in
-    ranged (ReadCrc read (cut (fieldRead read) address) 0 (commandCrc (readCode read) (cut (fieldRead read) address))) (le-leb _ _ h)
+    ranged (ReadCrc read (cut (fieldRead read) address) 0 (commandCrc (readCommand read) (cut (fieldRead read) address))) (le-leb _ _ h)
 
 write-latch-range : (field : Field) (address : ℕ) → Ranged (writeLatch field address)
 unfolding writeLatch epromRange
 write-latch-range field address =
-    ranged (WriteData field (cut field address) 0 0 (commandCrc (writeCode field) (cut field address)))
+    ranged (WriteData field (cut field address) 0 0 (commandCrc (writeCommand field) (cut field address)))
     (lt-ltb _ _ (cut-below field address))
 
 -- ---- reading and writing

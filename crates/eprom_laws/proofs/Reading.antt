@@ -16,14 +16,14 @@ use Rattle.line.specs.declared.Field.the-variants.{Data, Status}
 use Rattle.line.specs.declared.EpromRead.{EpromRead}
 use Rattle.line.specs.declared.EpromRead.the-variants.{Memory as ReadMemory, Status as ReadStatus, Pages as ReadPages}
 use Rattle.line.specs.declared.EpromStage.the-variants.{ReadCrc, ReadByte}
-use Rattle.eprom.specs.Eprom.{inEprom, fieldStart, fieldLength, fieldRead, readCode, readStart, epromCommand, span, cut, addressBytes, commandCrc, readLatch, stored, afterCrc, afterByte, bodyLength}
+use Rattle.eprom.specs.Eprom.{inEprom, fieldStart, fieldLength, fieldRead, readCommand, readStart, epromCommand, span, cut, addressBytes, commandCrc, readLatch, stored, afterCrc, afterByte, bodyLength}
 use Rattle.eprom_laws.specs.Events.{slots, Over}
 use Rattle.eprom_laws.specs.Sent.{lowBits, lineBits, fieldOf, withCrc, pageByPage, readBytes, readSent}
 use Rattle.eprom.proofs.Laws.{cut-below}
 use Rattle.eprom_laws.proofs.Slots.{then, ones-after, Sends, none, sends-then, sent-over, crc-sent, byte-sent, read-address-heard}
 
-read-command : (read : EpromRead) → epromCommand (readCode read) ≡ readStart read
-unfolding epromCommand readCode
+read-command : (read : EpromRead) → epromCommand (readCommand read) ≡ readStart read
+unfolding epromCommand readCommand
 read-command ReadMemory = refl
 read-command ReadStatus = refl
 read-command ReadPages = refl
@@ -166,14 +166,14 @@ module _ (body : List ℕ) (sized : length body ≡ bodyLength) where
   read-sends read address =
       let a = cut (fieldRead read) address in
       let h = cut-below (fieldRead read) address in
-      sends-then (rw (lt-ltb a (fieldLength (fieldRead read)) h) at (crc-sent body read a (commandCrc (readCode read) a)))
+      sends-then (rw (lt-ltb a (fieldLength (fieldRead read)) h) at (crc-sent body read a (commandCrc (readCommand read) a)))
       (bytes-sent read a h)
 
   -- F0h, AAh, C3h, from the whole command on, whatever is on the line while the device sends: ones while the address comes in; then the
   -- bytes of document 01 for the cut address; then ones. The body stays as it was
   pub read-law : (read : EpromRead) (address : ℕ) → address < 65536 → (ls more : List Bool)
       → length ls ≡ length (lineBits (readSent read (cut (fieldRead read) address) body))
-      → Over (epromCommand (readCode read)) body (slots (lineBits (addressBytes address)) ++ (slots ls ++ slots more))
+      → Over (epromCommand (readCommand read)) body (slots (lineBits (addressBytes address)) ++ (slots ls ++ slots more))
       (replicate 16 true ++ (lineBits (readSent read (cut (fieldRead read) address) body) ++ replicate (length more) true)) waiting body
   read-law read address h ls more e =
       rw (read-command read)

@@ -7,7 +7,7 @@ use native.Mathlib.Omega.{arith}
 use lib.ListN.{length, replicate}
 use Rattle.line.specs.declared.Field.{Field}
 use Rattle.line.specs.declared.EpromStage.the-variants.{WriteData}
-use Rattle.eprom.specs.Eprom.{inEprom, fieldLength, writeCode, epromCommand, cut, addressBytes, commandCrc, writeLatch, programmed}
+use Rattle.eprom.specs.Eprom.{inEprom, fieldLength, writeCommand, epromCommand, cut, addressBytes, commandCrc, writeLatch, programmed}
 use Rattle.eprom_laws.specs.Events.{slots, Over}
 use Rattle.eprom_laws.specs.Sent.{lineBits}
 use Rattle.eprom_laws.specs.Written.{Written, writeEvents, writeSent, writeBody, writeStage}
@@ -33,11 +33,11 @@ module _ (field : Field) where
   -- 0Fh, 55h, from the whole command on: ones while the address comes in; then the passes from the cut address, the first with the
   -- register at the CRC of command and cut address
   pub write-law : (body : List ℕ) (address : ℕ) → address < 65536 → (ws : List Written) → cut field address + length ws ≤ fieldLength field
-      → Over (epromCommand (writeCode field)) body (slots (lineBits (addressBytes address)) ++ writeEvents ws)
-      (replicate 16 true ++ writeSent field (cut field address) (commandCrc (writeCode field) (cut field address)) ws body)
-      (writeStage field (cut field address) (commandCrc (writeCode field) (cut field address)) ws)
+      → Over (epromCommand (writeCommand field)) body (slots (lineBits (addressBytes address)) ++ writeEvents ws)
+      (replicate 16 true ++ writeSent field (cut field address) (commandCrc (writeCommand field) (cut field address)) ws body)
+      (writeStage field (cut field address) (commandCrc (writeCommand field) (cut field address)) ws)
       (writeBody field (cut field address) ws body)
   unfolding writeLatch
   write-law body address h ws k =
       let a = cut field address in
-      rw (write-command field) (then (write-address-heard body field address h) (writes ws body a (commandCrc (writeCode field) a) k))
+      rw (write-command field) (then (write-address-heard body field address h) (writes ws body a (commandCrc (writeCommand field) a) k))

@@ -12,14 +12,14 @@ use Rattle.line.specs.declared.Field.the-variants.{Data, Status}
 use Rattle.line.specs.declared.EpromStage.{EpromStage}
 use Rattle.line.specs.declared.EpromStage.the-variants.{WriteData, PulseDue, Stored}
 use Rattle.line.specs.declared.Stage.{Stage}
-use Rattle.eprom.specs.Eprom.{inEprom, fieldLength, writeCode, writeStart, epromCommand, cut, addressBytes, commandCrc, writeLatch, stored, programmed, nextAddress, epromPulse, epromProgram}
+use Rattle.eprom.specs.Eprom.{inEprom, fieldLength, writeCommand, writeStart, epromCommand, cut, addressBytes, commandCrc, writeLatch, stored, programmed, nextAddress, epromPulse, epromProgram}
 use Rattle.eprom_laws.specs.Events.{LineEvent, pulse, slots, levelsSent, stageAfterEvents, bodyAfterEvents, Over}
 use Rattle.eprom_laws.specs.Sent.{lowBits, lineBits}
 use Rattle.eprom_laws.specs.Written.{Written, writePassEvents, writePassSent}
 use Rattle.eprom_laws.proofs.Slots.{low-length, then, sent-over, write-crc-sent, stored-sent, write-address-heard, data-heard}
 
-pub write-command : (field : Field) → epromCommand (writeCode field) ≡ writeStart field
-unfolding epromCommand writeCode
+pub write-command : (field : Field) → epromCommand (writeCommand field) ≡ writeStart field
+unfolding epromCommand writeCommand
 write-command Data = refl
 write-command Status = refl
 
@@ -66,8 +66,8 @@ module _ (field : Field) where
 
   -- the CRC of the first pass is that of command, cut address and data
   pub first-pass : (body : List ℕ) (address d : ℕ) → address < 65536 → d < 256 → (ls : List Bool) → length ls ≡ 8
-      → Over (epromCommand (writeCode field)) body (slots (lineBits (addressBytes address)) ++ (slots (lowBits 8 d) ++ slots ls))
-      (replicate 16 true ++ (replicate 8 true ++ lowBits 8 (crcOf (writeCode field ∷ (addressBytes (cut field address) ++ d ∷ [])))))
+      → Over (epromCommand (writeCommand field)) body (slots (lineBits (addressBytes address)) ++ (slots (lowBits 8 d) ++ slots ls))
+      (replicate 16 true ++ (replicate 8 true ++ lowBits 8 (crcOf (writeCommand field ∷ (addressBytes (cut field address) ++ d ∷ [])))))
       (inEprom (PulseDue field (cut field address) d)) body
   unfolding writeLatch commandCrc crcFrom
   first-pass body address d h k ls e =

@@ -8,7 +8,7 @@ use Rattle.bits.specs.Crc.{crcOf}
 use Rattle.line.specs.declared.Field.{Field}
 use Rattle.line.specs.declared.EpromRead.{EpromRead}
 use Rattle.line.specs.declared.EpromRead.the-variants.{Memory as ReadMemory, Status as ReadStatus, Pages as ReadPages}
-use Rattle.eprom.specs.Eprom.{fieldStart, fieldLength, fieldRead, pageLength, readCode, commandCrc}
+use Rattle.eprom.specs.Eprom.{fieldStart, fieldLength, fieldRead, pageLength, readCommand, commandCrc}
 
 -- ---- bits on the line
 
@@ -46,4 +46,4 @@ readBytes ReadPages start bytes = pageByPage (4 - start / pageLength) (pageLengt
 -- all that a read sends from a start address on, as it was cut: the CRC of command and address first
 unfoldable pub readSent : EpromRead → ℕ → List ℕ → List ℕ
 readSent read start body =
-    commandCrc (readCode read) start ∷ readBytes read start (drop start (fieldOf (fieldRead read) body))
+    commandCrc (readCommand read) start ∷ readBytes read start (drop start (fieldOf (fieldRead read) body))

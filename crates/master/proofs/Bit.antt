@@ -7,14 +7,14 @@ use mathlib.Core.List.{List, []}
 use native.Mathlib.Omega.{arith}
 use lib.Dec.{eqb, ltb}
 use borrow.Author.Tests.{lt-ltb, le-ltb, ltb-true}
-use Rattle.bits.specs.Bit.{bitAt, putBit}
+use Rattle.bits.specs.Bit.{bitAt, putBit, levelByte}
 use Rattle.master.specs.declared.End.the-variants.{NoDevice}
 use Rattle.master.specs.declared.Stage.{Stage}
 use Rattle.master.specs.declared.Stage.the-variants.{Fresh, Reset, Command, FirstRead, SecondRead, Direction, Ended}
 use Rattle.master.specs.declared.Discrepancy.{Discrepancy}
 use Rattle.master.specs.declared.Master.{Master}
-use Rattle.master.specs.Master.{codeBits, mostPasses, event, end, endNumber, slot, readSlot, said, answerOf, says, withStage, stageInRange, inRange, sendDirection, afterReads, afterDirection, stageAfter, after, nextOf}
-use Rattle.master.specs.Bit.{stageReadsBit, readsBit, levelNumber, directionStep, bitSteps, stageReading, readingOf, withDirections, followedBits, followed}
+use Rattle.master.specs.Master.{codeBits, mostPasses, event, end, endNumber, slot, readSlot, said, answerOf, says, withStage, stageInRange, inRange, sendDirection, afterReads, afterDirection, stepByStage, afterLevel, nextOf}
+use Rattle.master.specs.Bit.{stageReadsBit, readsBit, directionStep, bitSteps, stageReading, readingOf, withDirections, followedBits, followed}
 use Rattle.master.specs.Drive.{codeCompleted}
 use Rattle.master.proofs.Laws.{both, goes-by-stage, ended-stays}
 use Rattle.master.proofs.Clock.{reads-passes}
@@ -45,8 +45,8 @@ reading m h = let r = stage-reading (m .stage) (m .passes) h in (r .0, record { 
 -- ---- its three steps
 
 -- it goes by its stage
-first-read : {m : Master} {at : ℕ} → Reading m at → (level : Bool) → after m level ≡ withStage m (SecondRead at level)
-unfolding inRange stageInRange stageAfter
+first-read : {m : Master} {at : ℕ} → Reading m at → (level : Bool) → afterLevel m level ≡ withStage m (SecondRead at level)
+unfolding inRange stageInRange stepByStage
 first-read {m} {at} r level =
     let more = r .more in
     let range : inRange m ≡ true = ap (λ (s : Stage). stageInRange s (m .passes)) (r .stands) ∙ rw (lt-ltb at codeBits (omega arith), lt-ltb (m .passes) mostPasses (r .going)) in
@@ -59,21 +59,21 @@ unstaged m s at false true = refl
 unstaged m s at true false = refl
 unstaged m s at true true = refl
 
-second-read : {m : Master} {at : ℕ} → Reading m at → (first second : Bool) → after (withStage m (SecondRead at first)) second ≡ afterReads m at first second
-unfolding inRange stageInRange stageAfter withStage
+second-read : {m : Master} {at : ℕ} → Reading m at → (first second : Bool) → afterLevel (withStage m (SecondRead at first)) second ≡ afterReads m at first second
+unfolding inRange stageInRange stepByStage withStage
 second-read {m} {at} r first second =
     let more = r .more in
     let n = withStage m (SecondRead at first) in
     let range : inRange n ≡ true = rw (lt-ltb at codeBits (omega arith), lt-ltb (m .passes) mostPasses (r .going)) in
     goes-by-stage n (SecondRead at first) second refl range ∙ unstaged m (SecondRead at first) at first second
 
-both-read : {m : Master} {at : ℕ} → Reading m at → (first second : Bool) → after (after m first) second ≡ afterReads m at first second
-both-read r first second = ap (λ (n : Master). after n second) (first-read r first) ∙ second-read r first second
+both-read : {m : Master} {at : ℕ} → Reading m at → (first second : Bool) → afterLevel (afterLevel m first) second ≡ afterReads m at first second
+both-read r first second = ap (λ (n : Master). afterLevel n second) (first-read r first) ∙ second-read r first second
 
 -- a direction that is not the last is followed by the next bit, whatever the level
 pub next-bit : (m : Master) (at : ℕ) (bit : Bool) (opened : Discrepancy) (level : Bool) → at < codeBits - 1 → m .passes < mostPasses
-    → after (sendDirection m at bit opened) level ≡ withStage (sendDirection m at bit opened) (FirstRead (at + 1))
-unfolding inRange stageInRange stageAfter afterDirection sendDirection
+    → afterLevel (sendDirection m at bit opened) level ≡ withStage (sendDirection m at bit opened) (FirstRead (at + 1))
+unfolding inRange stageInRange stepByStage afterDirection sendDirection
 next-bit m at bit opened level more going =
     let n = sendDirection m at bit opened in
     let range : inRange n ≡ true = rw (lt-ltb at codeBits (omega arith), lt-ltb (m .passes) mostPasses going) in
@@ -81,12 +81,12 @@ next-bit m at bit opened level more going =
 
 -- ---- the three at once
 
-pub number-read : (level : Bool) → not (eqb (levelNumber level) 0) ≡ level
-unfolding levelNumber
+pub number-read : (level : Bool) → not (eqb (levelByte level) 0) ≡ level
+unfolding levelByte
 number-read false = refl
 number-read true = refl
 
-pub by-steps : (m : Master) (first second : Bool) → bitSteps m first second ≡ directionStep (after (after m first) second)
+pub by-steps : (m : Master) (first second : Bool) → bitSteps m first second ≡ directionStep (afterLevel (afterLevel m first) second)
 unfolding bitSteps
 by-steps m first second = rw (number-read first, number-read second)
 
@@ -124,7 +124,7 @@ directed : {m : Master} {at : ℕ} → Reading m at → (bit : Bool) (opened : D
 unfolding sendDirection withStage said answerOf
 directed {m} {at} r bit opened =
     let n = sendDirection m at bit opened in
-    let on : (level : Bool) → after n level ≡ withStage n (FirstRead (at + 1)) = λ level. next-bit m at bit opened level (r .more) (r .going) in
+    let on : (level : Bool) → afterLevel n level ≡ withStage n (FirstRead (at + 1)) = λ level. next-bit m at bit opened level (r .more) (r .going) in
     record {
       direction = bit;
       sends = refl;

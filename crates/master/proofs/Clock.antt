@@ -17,7 +17,7 @@ use Rattle.master.specs.declared.Stage.the-variants.{Fresh, Reset, Comma
 use Rattle.master.specs.declared.Discrepancy.{Discrepancy}
 use Rattle.master.specs.declared.Discrepancy.the-variants.{None, At}
 use Rattle.master.specs.declared.Master.{Master}
-use Rattle.master.specs.Master.{commandBits, codeBits, mostPasses, event, end, endNumber, said, answerOf, says, fresh, withStage, stageInRange, inRange, afterReset, afterCommand, sendDirection, afterReads, completed, afterPass, passEnd, afterDirection, stageAfter, after}
+use Rattle.master.specs.Master.{commandBits, codeBits, mostPasses, event, end, endNumber, said, answerOf, says, fresh, withStage, stageInRange, inRange, afterReset, afterCommand, sendDirection, afterReads, completed, afterPass, passEnd, afterDirection, stepByStage, afterLevel}
 use Rattle.master.specs.Drive.{started, passEvents, codeCompleted}
 use Rattle.master.proofs.Laws.{goes-by-stage}
 
@@ -53,7 +53,7 @@ unfolding inRange
 reached-in-range {m} {i} r = given-in-range (m .stage) (m .passes) i (r .given)
 
 -- it goes by its stage
-pub reached-after : {m : Master} {i : ℕ} → Reached m i → (level : Bool) → after m level ≡ stageAfter (m .stage) m level
+pub reached-after : {m : Master} {i : ℕ} → Reached m i → (level : Bool) → afterLevel m level ≡ stepByStage (m .stage) m level
 reached-after {m} r level = goes-by-stage m (m .stage) level refl (reached-in-range r)
 
 -- ---- one level more
@@ -115,8 +115,8 @@ direction-on {m} {i} at bit r g = choose (ltb at (codeBits - 1)) refl
     choose true t = let h = ltb-true at (codeBits - 1) t in in-stage (FirstRead (at + 1)) r (g .0, omega arith, omega arith)
     choose false t = let h = ltb-false at (codeBits - 1) t in pass-end-on r (g .0) (omega arith)
 
-stage-on : (s : Stage) {m : Master} {i : ℕ} (level : Bool) → Reached m i → m .stage ≡ s → Given s (m .passes) i → Reached (stageAfter s m level) (suc i)
-unfolding stageAfter afterReset afterCommand
+stage-on : (s : Stage) {m : Master} {i : ℕ} (level : Bool) → Reached m i → m .stage ≡ s → Given s (m .passes) i → Reached (stepByStage s m level) (suc i)
+unfolding stepByStage afterReset afterCommand
 stage-on Fresh level r h g = absurd g
 stage-on Reset false r h g = in-stage (Command 0) r (g .0, omega arith, omega arith)
 stage-on Reset {m} true r h g = in-stage (Ended _) r (omega arith, omega arith, λ q. absurd (not-presence (eqb (m .passes) 0) q))
@@ -131,16 +131,16 @@ stage-on (Direction at bit) level r h g = direction-on at bit r g
 stage-on (Ended e) {m} {i} level r h g =
     record { given = subst (λ (s : Stage). Given s (m .passes) (suc i)) (sym h) (g .0, omega arith, g .2); code-size = r .code-size; previous-size = r .previous-size }
 
-pub reached-on : {m : Master} {i : ℕ} → Reached m i → (level : Bool) → Reached (after m level) (suc i)
+pub reached-on : {m : Master} {i : ℕ} → Reached m i → (level : Bool) → Reached (afterLevel m level) (suc i)
 reached-on {m} {i} r level = subst (λ (n : Master). Reached n (suc i)) (sym (reached-after r level)) (stage-on (m .stage) level r refl (r .given))
 
 -- the first step
 pub reached-started : Reached started 0
-unfolding after inRange stageInRange stageAfter fresh withStage
+unfolding afterLevel inRange stageInRange stepByStage fresh withStage
 reached-started = record { given = (omega arith, omega arith); code-size = refl; previous-size = refl }
 
 pub started-passes : started .passes ≡ 0
-unfolding after inRange stageInRange stageAfter fresh withStage
+unfolding afterLevel inRange stageInRange stepByStage fresh withStage
 started-passes = refl
 
 -- ---- what this bounds
@@ -201,8 +201,8 @@ direction-completes m at = choose (ltb at (codeBits - 1))
     choose true = inl refl
     choose false = pass-end-completes m
 
-stage-completes : (s : Stage) (m : Master) (i : ℕ) (level : Bool) → Given s (m .passes) i → Completes m (stageAfter s m level)
-unfolding stageAfter afterReset afterCommand withStage
+stage-completes : (s : Stage) (m : Master) (i : ℕ) (level : Bool) → Given s (m .passes) i → Completes m (stepByStage s m level)
+unfolding stepByStage afterReset afterCommand withStage
 stage-completes Fresh m i level g = absurd g
 stage-completes Reset m i false g = inl refl
 stage-completes Reset m i true g = inl refl
@@ -212,19 +212,19 @@ stage-completes (SecondRead at first) m i level g = inl (reads-passes m at first
 stage-completes (Direction at bit) m i level g = direction-completes m at
 stage-completes (Ended e) m i level g = inl refl
 
-pub reached-completes : {m : Master} {i : ℕ} → Reached m i → (level : Bool) → Completes m (after m level)
+pub reached-completes : {m : Master} {i : ℕ} → Reached m i → (level : Bool) → Completes m (afterLevel m level)
 reached-completes {m} {i} r level = subst (λ (n : Master). Completes m n) (sym (reached-after r level)) (stage-completes (m .stage) m i level (r .given))
 
 -- so the codes completed take 8 bytes each
 pub completed-size : {m : Master} {i : ℕ} → Reached m i → (level : Bool)
-    → 8 * m .passes + length (codeCompleted (m .passes) (after m level)) ≡ 8 * (after m level .passes)
+    → 8 * m .passes + length (codeCompleted (m .passes) (afterLevel m level)) ≡ 8 * (afterLevel m level .passes)
 unfolding codeCompleted
 completed-size {m} {i} r level = choose (reached-completes r level)
   where
-    choose : Completes m (after m level)
-        → 8 * m .passes + length (cond (ltb (m .passes) (after m level .passes)) (after m level .previous) []) ≡ 8 * (after m level .passes)
-    choose (inl e) = rw (le-ltb (m .passes) (after m level .passes) (omega arith)) (omega arith)
-    choose (inr e) = let size = reached-on r level .previous-size in rw (lt-ltb (m .passes) (after m level .passes) (omega arith)) (omega arith)
+    choose : Completes m (afterLevel m level)
+        → 8 * m .passes + length (cond (ltb (m .passes) (afterLevel m level .passes)) (afterLevel m level .previous) []) ≡ 8 * (afterLevel m level .passes)
+    choose (inl e) = rw (le-ltb (m .passes) (afterLevel m level .passes) (omega arith)) (omega arith)
+    choose (inr e) = let size = reached-on r level .previous-size in rw (lt-ltb (m .passes) (afterLevel m level .passes) (omega arith)) (omega arith)
 
 -- an end with 10 is one with 64 codes
 ended-ten : (s : Stage) (passes i : ℕ) → Given s passes i → said (answerOf s) ≡ end 10 → passes ≡ mostPasses

@@ -12,7 +12,7 @@ use Rattle.master.specs.declared.End.{End}
 use Rattle.master.specs.declared.Stage.{Stage}
 use Rattle.master.specs.declared.Stage.the-variants.{Fresh, Reset, Command, FirstRead, SecondRead, Direction, Ended}
 use Rattle.master.specs.declared.Master.{Master}
-use Rattle.master.specs.Master.{mostPasses, Said, event, end, endNumber, reset, said, answerOf, says, stageInRange, inRange, fresh, withStage, afterReset, stageAfter, after, nextOf}
+use Rattle.master.specs.Master.{mostPasses, Said, event, end, endNumber, reset, said, answerOf, says, stageInRange, inRange, fresh, withStage, afterReset, stepByStage, afterLevel, nextOf}
 use Rattle.master.specs.Drive.{started, passEvents, feedTraceRoom, feedCodeRoom, sent, eventsFrom, codeCompleted, codesFrom, lastFrom}
 use Rattle.master.proofs.Laws.{ended-stays}
 use Rattle.master.proofs.Clock.{Reached, reached-on, reached-started, started-passes, reached-passes, reached-sends, reached-ten, completed-size}
@@ -134,10 +134,10 @@ ten-all levels h =
 -- no presence on the first reset: done, no codes
 pub absent-first : (level : ℕ) (levels : List ℕ) → (level ≡ 0 → ⊥)
     → (eventsFrom started (level ∷ levels) ≡ reset ∷ []) × (codesFrom started (level ∷ levels) ≡ []) × (says (lastFrom started (level ∷ levels)) ≡ end 0)
-unfolding eventsFrom sent codesFrom codeCompleted lastFrom after inRange stageInRange stageAfter afterReset fresh withStage said answerOf endNumber
+unfolding eventsFrom sent codesFrom codeCompleted lastFrom afterLevel inRange stageInRange stepByStage afterReset fresh withStage said answerOf endNumber
 absent-first level levels h =
-    let m = after started true in
-    let ends : nextOf started level ≡ m = ap (λ (t : Bool). after started (not t)) (ne-eqb level 0 h) in (
+    let m = afterLevel started true in
+    let ends : nextOf started level ≡ m = ap (λ (t : Bool). afterLevel started (not t)) (ne-eqb level 0 h) in (
       ap (λ (n : Master). reset ∷ eventsFrom n levels) ends ∙ ap (λ (l : List ℕ). reset ∷ l) (ended-events m 0 levels refl),
       ap (λ (n : Master). codeCompleted 0 n ++ codesFrom n levels) ends ∙ ended-codes m 0 levels refl,
       ap (λ (n : Master). says (lastFrom n levels)) ends ∙ ap says (ended-last m 0 levels refl),

@@ -15,7 +15,7 @@ use Rattle.master.specs.declared.Outcome.{Outcome}
 use Rattle.master.specs.declared.Driven.{Driven}
 use Rattle.master.specs.declared.Master.{Master}
 use Rattle.master.specs.Master.{event, end, endNumber, said, answerOf, says, nextOf}
-use Rattle.master.specs.Drive.{started, sent, eventsFrom, codeCompleted, codesFrom, lastFrom, outcomeOf, fed, refused, driveResult, outcomeNumber, numberSaid, driveNumber, feedTraceRoom, feedCodeRoom, roomRefused, traceAfter, codesAfter}
+use Rattle.master.specs.Drive.{started, sent, eventsFrom, codeCompleted, codesFrom, lastFrom, outcomeOf, fed, refused, driveResult, outcomeNumber, numberSaid, driveNumber, feedTraceRoom, feedCodeRoom, noDriveRoom, traceAfter, codesAfter}
 use Rattle.master.proofs.Clock.{Reached, reached-on, reached-started, started-passes, completed-size}
 use Rattle.master.proofs.Driving.{ended-last, ended-events, ended-codes, events-fit, codes-fit}
 use Rattle.master.proofs.Stores.{store-append, store-front}
@@ -118,12 +118,12 @@ number-outcome (Answer.End x) = refl
 
 module _ (levels trace codes : List ℕ) where
   -- refused: nothing is written
-  pub drive-refused : (r : Driven) → r ≡ refused → roomRefused levels trace codes ≡ true → Drives levels trace codes r trace codes
+  pub drive-refused : (r : Driven) → r ≡ refused → noDriveRoom levels trace codes ≡ true → Drives levels trace codes r trace codes
   unfolding driveResult driveNumber traceAfter codesAfter outcomeNumber
   drive-refused r made h = rw h (made, ap (λ (d : Driven). outcomeNumber (d .outcome)) made, refl, refl)
 
   -- with the room, all is written
-  pub drive-fed : (r : Driven) (trace′ codes′ : List ℕ) → roomRefused levels trace codes ≡ false
+  pub drive-fed : (r : Driven) (trace′ codes′ : List ℕ) → noDriveRoom levels trace codes ≡ false
       → feedTraceRoom (length levels) ≤ length trace → feedCodeRoom (length levels) ≤ length codes
       → r ≡ fed levels
       → trace′ ≡ sets trace 0 (eventsFrom started levels)

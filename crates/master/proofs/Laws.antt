@@ -11,7 +11,7 @@ use Rattle.master.specs.declared.Answer.{Answer}
 use Rattle.master.specs.declared.Stage.{Stage}
 use Rattle.master.specs.declared.Stage.the-variants.{Fresh, Reset, Command, FirstRead, SecondRead, Direction, Ended}
 use Rattle.master.specs.declared.Master.{Master}
-use Rattle.master.specs.Master.{mostPasses, codeBits, event, end, endNumber, said, says, answerOf, reset, fresh, withStage, stageInRange, inRange, stageAfter, after, nextOf, readsLevel}
+use Rattle.master.specs.Master.{mostPasses, codeBits, event, end, endNumber, said, says, answerOf, reset, fresh, withStage, stageInRange, inRange, stepByStage, afterLevel, nextOf, readsLevel}
 
 -- ---- a master in a known stage
 
@@ -20,10 +20,10 @@ both true b e = (refl, e)
 both false b e = absurd (true≢false (sym e))
 
 -- in range it goes by its stage
-pub goes-by-stage : (m : Master) (s : Stage) (level : Bool) → m .stage ≡ s → inRange m ≡ true → after m level ≡ stageAfter s m level
-unfolding after
+pub goes-by-stage : (m : Master) (s : Stage) (level : Bool) → m .stage ≡ s → inRange m ≡ true → afterLevel m level ≡ stepByStage s m level
+unfolding afterLevel
 goes-by-stage m s level e r =
-    ap (λ (t : Bool). cond t (stageAfter (m .stage) m level) (withStage m (Ended Done))) r ∙ ap (λ (x : Stage). stageAfter x m level) e
+    ap (λ (t : Bool). cond t (stepByStage (m .stage) m level) (withStage m (Ended Done))) r ∙ ap (λ (x : Stage). stepByStage x m level) e
 
 -- and while a pass goes on, fewer than 64 codes are completed
 pub fewer-passes : (m : Master) (at : ℕ) (bit : Bool) → m .stage ≡ Direction at bit → inRange m ≡ true → m .passes < mostPasses
@@ -34,20 +34,20 @@ fewer-passes m at bit e r = ltb-true (m .passes) mostPasses (both (ltb at codeBi
 
 -- a fresh master opens with a reset, whatever the level
 pub fresh-resets : (level : ℕ) → says (nextOf fresh level) ≡ event reset
-unfolding after inRange stageInRange stageAfter fresh withStage said answerOf
+unfolding afterLevel inRange stageInRange stepByStage fresh withStage said answerOf
 fresh-resets level = refl
 
 -- an ended one stays as it is and gives its end again
 pub ended-stays : (m : Master) (e : End) (level : ℕ) → m .stage ≡ Ended e → (nextOf m level ≡ m) × (says (nextOf m level) ≡ end (endNumber e))
-unfolding inRange stageInRange stageAfter said answerOf
+unfolding inRange stageInRange stepByStage said answerOf
 ended-stays m e level h =
     let r : inRange m ≡ true = ap (λ (x : Stage). stageInRange x (m .passes)) h in
     let same : nextOf m level ≡ m = goes-by-stage m (Ended e) (not (eqb level 0)) h r in
     (same, ap says same ∙ ap (λ (x : Stage). said (answerOf x)) h)
 
 -- levels are read only after a reset and in the two read slots of each bit
-stage-unread : (m : Master) (s : Stage) (a b : Bool) → readsLevel s ≡ false → stageAfter s m a ≡ stageAfter s m b
-unfolding readsLevel stageAfter
+stage-unread : (m : Master) (s : Stage) (a b : Bool) → readsLevel s ≡ false → stepByStage s m a ≡ stepByStage s m b
+unfolding readsLevel stepByStage
 stage-unread m Fresh a b h = refl
 stage-unread m Reset a b h = absurd (true≢false h)
 stage-unread m (Command at) a b h = refl
@@ -57,13 +57,13 @@ stage-unread m (Direction at bit) a b h = refl
 stage-unread m (Ended e) a b h = refl
 
 pub level-unread : (m : Master) (a b : ℕ) → readsLevel (m .stage) ≡ false → nextOf m a ≡ nextOf m b
-unfolding after
+unfolding afterLevel
 level-unread m a b h =
     ap (λ (x : Master). cond (inRange m) x (withStage m (Ended Done))) (stage-unread m (m .stage) (not (eqb a 0)) (not (eqb b 0)) h)
 
 -- nonzero counts as 1
 pub nonzero-is-one : (m : Master) (level : ℕ) → (level ≡ 0 → ⊥) → nextOf m level ≡ nextOf m 1
-nonzero-is-one m level h = ap (λ (t : Bool). after m (not t)) (ne-eqb level 0 h)
+nonzero-is-one m level h = ap (λ (t : Bool). afterLevel m (not t)) (ne-eqb level 0 h)
 
 -- an answer is known by its values, so that what a step promises leaves no choice
 number-end : (a b : End) → endNumber a ≡ endNumber b → a ≡ b

@@ -1,10 +1,10 @@
 -- Document 01, 'The searching master': a bit of a code is two read slots and a direction. Here their three steps are taken at once, so that a
 -- search need not copy the master for each. Nothing is decided here: `bitSteps` is `nextOf` three times.
 use Prim.Native.Nat.{ℕ, zero, suc, _+_, _-_}
-use mathlib.Core.Bool.{Bool, true, false, cond, _&&_}
+use mathlib.Core.Bool.{Bool, false, cond, _&&_}
 use mathlib.Core.List.{List}
 use lib.Dec.{ltb}
-use Rattle.bits.specs.Bit.{bitAt, putBit}
+use Rattle.bits.specs.Bit.{bitAt, putBit, levelByte}
 use Rattle.master.specs.declared.Stage.{Stage}
 use Rattle.master.specs.declared.Stage.the-variants.{Fresh, Reset, Command, FirstRead, SecondRead, Direction, Ended}
 use Rattle.master.specs.declared.Master.{Master}
@@ -25,14 +25,9 @@ stageReadsBit (Ended e) passes = false
 unfoldable pub readsBit : Master → Bool
 readsBit m = stageReadsBit (m .stage) (m .passes)
 
--- a level as a number
-unfoldable pub levelNumber : Bool → ℕ
-levelNumber false = 0
-levelNumber true = 1
-
 -- the master that was given the levels of both read slots
 abbrev pub bothRead : Master → Bool → Bool → Master
-bothRead m first second = nextOf (nextOf m (levelNumber first)) (levelNumber second)
+bothRead m first second = nextOf (nextOf m (levelByte first)) (levelByte second)
 
 -- what it answers, and the master one step later; the level of a direction is not read, so that 0 stands for any
 abbrev pub directionStep : Master → Step

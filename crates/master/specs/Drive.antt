@@ -58,8 +58,8 @@ unfoldable pub feedCodeRoom : ℕ → ℕ
 feedCodeRoom levels = codeBytes * min (levels / passEvents) mostPasses
 
 -- our own 7: too little room for the trace or the codes
-unfoldable pub roomRefused : List ℕ → List ℕ → List ℕ → Bool
-roomRefused levels trace codes = ltb (length trace) (feedTraceRoom (length levels)) || ltb (length codes) (feedCodeRoom (length levels))
+unfoldable pub noDriveRoom : List ℕ → List ℕ → List ℕ → Bool
+noDriveRoom levels trace codes = ltb (length trace) (feedTraceRoom (length levels)) || ltb (length codes) (feedCodeRoom (length levels))
 
 -- ---- the drive
 
@@ -82,7 +82,7 @@ refused = record { outcome = Refused; events = 0; codes = 0 }
 
 -- what a drive gives back
 unfoldable pub driveResult : List ℕ → List ℕ → List ℕ → Driven
-driveResult levels trace codes = cond (roomRefused levels trace codes) refused (fed levels)
+driveResult levels trace codes = cond (noDriveRoom levels trace codes) refused (fed levels)
 
 -- the number of an outcome: 7, which is our own, or document 01's of the master's end; there is none while the master goes on
 unfoldable pub outcomeNumber : Outcome → Option ℕ
@@ -97,7 +97,7 @@ numberSaid (end number) = some number
 
 -- the number of a drive
 unfoldable pub driveNumber : List ℕ → List ℕ → List ℕ → Option ℕ
-driveNumber levels trace codes = cond (roomRefused levels trace codes) (some 7) (numberSaid (says (lastFrom started levels)))
+driveNumber levels trace codes = cond (noDriveRoom levels trace codes) (some 7) (numberSaid (says (lastFrom started levels)))
 
 -- bytes at the front of a buffer; those past them stay as they were
 abbrev pub over : List ℕ → List ℕ → List ℕ
@@ -105,7 +105,7 @@ over bytes buffer = bytes ++ drop (length bytes) buffer
 
 -- what the two buffers then hold
 unfoldable pub traceAfter : List ℕ → List ℕ → List ℕ → List ℕ
-traceAfter levels trace codes = cond (roomRefused levels trace codes) trace (over (eventsFrom started levels) trace)
+traceAfter levels trace codes = cond (noDriveRoom levels trace codes) trace (over (eventsFrom started levels) trace)
 
 unfoldable pub codesAfter : List ℕ → List ℕ → List ℕ → List ℕ
-codesAfter levels trace codes = cond (roomRefused levels trace codes) codes (over (codesFrom started levels) codes)
+codesAfter levels trace codes = cond (noDriveRoom levels trace codes) codes (over (codesFrom started levels) codes)

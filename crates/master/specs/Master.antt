@@ -153,14 +153,14 @@ afterDirection m at = cond (ltb at (codeBits - 1)) (withStage m (FirstRead (at +
 -- ---- the step
 
 -- the level is that of the event sent last; an ended master stays as it is
-unfoldable pub stageAfter : Stage → Master → Bool → Master
-stageAfter Fresh m level = withStage fresh Reset
-stageAfter Reset m level = afterReset m level
-stageAfter (Command at) m level = afterCommand m at
-stageAfter (FirstRead at) m level = withStage m (SecondRead at level)
-stageAfter (SecondRead at first) m level = afterReads m at first level
-stageAfter (Direction at bit) m level = afterDirection m at
-stageAfter (Ended e) m level = m
+unfoldable pub stepByStage : Stage → Master → Bool → Master
+stepByStage Fresh m level = withStage fresh Reset
+stepByStage Reset m level = afterReset m level
+stepByStage (Command at) m level = afterCommand m at
+stepByStage (FirstRead at) m level = withStage m (SecondRead at level)
+stepByStage (SecondRead at first) m level = afterReads m at first level
+stepByStage (Direction at bit) m level = afterDirection m at
+stepByStage (Ended e) m level = m
 
 -- it reads levels only after a reset and in the two read slots of each bit
 unfoldable pub readsLevel : Stage → Bool
@@ -173,12 +173,12 @@ readsLevel (Direction at bit) = false
 readsLevel (Ended e) = false
 
 -- Our own ruling, as document 01 has no such master: one that no fresh master comes to is taken as ended, without number.
-unfoldable pub after : Master → Bool → Master
-after m level = cond (inRange m) (stageAfter (m .stage) m level) (withStage m (Ended Done))
+unfoldable pub afterLevel : Master → Bool → Master
+afterLevel m level = cond (inRange m) (stepByStage (m .stage) m level) (withStage m (Ended Done))
 
 -- the master that a step hands back, given one level; nonzero counts as 1
 abbrev pub nextOf : Master → ℕ → Master
-nextOf m level = after m (not (eqb level 0))
+nextOf m level = afterLevel m (not (eqb level 0))
 
 -- and what it answers
 abbrev pub stepOf : Master → ℕ → Step

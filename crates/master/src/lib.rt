@@ -7,7 +7,7 @@ ghost use mathlib.Core.Path.{_≡_};
 ghost use Prim.Native.Nat.{_+_, _-_, _*_, _<_};
 ghost use lib.Seq.{sets};
 ghost use Rattle.bits.specs.Bit.{putBit};
-ghost use Rattle.master.specs.Master.{codeBits, codeBytes, mostPasses, fresh, withStage, slot, said, answerOf, says, inRange, afterReset, afterCommand, atDiscrepancy, sendDirection, afterReads, completed, afterPass, passEnd, afterDirection, after, nextOf, stepOf};
+ghost use Rattle.master.specs.Master.{codeBits, codeBytes, mostPasses, fresh, withStage, slot, said, answerOf, says, inRange, afterReset, afterCommand, atDiscrepancy, sendDirection, afterReads, completed, afterPass, passEnd, afterDirection, afterLevel, nextOf, stepOf};
 ghost use Rattle.master.specs.Bit.{readsBit, directionStep, bitSteps, readingOf, withDirections, followed};
 ghost use Rattle.master.specs.Drive.{started, eventsFrom, codeCompleted, codesFrom, feedTraceRoom, feedCodeRoom, refused, fed, driveResult, outcomeNumber, driveNumber, traceAfter, codesAfter};
 
@@ -336,7 +336,7 @@ impl Master {
 
     // The master after a step.
     fn after(self, level: bool) -> Master
-        ensures { λ r. ⌜ r ≡ after self level ⌝ }
+        ensures { λ r. ⌜ r ≡ afterLevel self level ⌝ }
     {
         if !self.in_range() {
             return self.with_stage(Stage::Ended(End::Done));

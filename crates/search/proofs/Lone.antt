@@ -1,6 +1,6 @@
 -- A device that is alone on the line at a code bit of a search: what the mark in a word says, and what the device does in the slots of the bit.
 -- Assumes nothing.
-use Prim.Native.Nat.{ℕ, zero, suc, _+_, _-_, _*_, _/_, _%_, _<_, _≤_}
+use Prim.Native.Nat.{ℕ, zero, suc, _+_, _-_, _*_, _/_, _%_, _<_}
 use mathlib.Core.Path.{_≡_, refl, sym, ap, subst, _∙_}
 use mathlib.Core.Logic.{_⊎_, inl, inr}
 use mathlib.Core.Bool.{Bool, true, false, not, cond, _&&_, true≢false}
@@ -14,9 +14,7 @@ use borrow.Author.Tests.{lt-ltb, le-ltb, ltb-true, eqb-true, ne-eqb}
 use Rattle.bits.specs.Bit.{bitOf, bitAt, byteOf, bitPlace}
 use Rattle.bits.specs.Slots.{slotsWord, levelsIn, countIn, smaller, bothSlots}
 use Rattle.bits.proofs.Slots.{count-of, smaller-few, ones-bit, both-level}
-use Rattle.kind.specs.declared.Kind.{Kind}
 use Rattle.kind.specs.Kind.{bodySize}
-use Rattle.line.specs.declared.SearchSlot.{SearchSlot}
 use Rattle.line.specs.declared.SearchSlot.the-variants.{Bit, Complement, Direction}
 use Rattle.line.specs.declared.RomStage.the-variants.{Waiting, Command, Read, Match, Search}
 use Rattle.line.specs.declared.Stage.{Stage}
@@ -24,15 +22,15 @@ use Rattle.line.specs.declared.Stage.the-variants.{Rom, Memory}
 use Rattle.rom.specs.Rom.{romRange}
 use Rattle.rom.specs.Through.{searchAhead, romAhead}
 use Rattle.device.specs.declared.LineState.{LineState}
-use Rattle.device.specs.Device.{stageRange, stateOf, waitingState, stateAfter}
+use Rattle.device.specs.Device.{stageRange, lineState, waitingState, stateAfterSlot}
 use Rattle.device.specs.Through.{stageAhead, aheadOf, stepsLeave}
 use Rattle.device.proofs.Laws.{searching, search-after-bit, search-after-complement, search-stays}
 use Rattle.device.proofs.Several.{sized-taken, steps-waiting}
-use Rattle.bus.specs.Bus.{Device, answerByte}
+use Rattle.bus.specs.Bus.{Device}
 use Rattle.bus.specs.Loops.{isWaiting, waitsIn, deviceAt, deviceIn, devicesIn, deviceAhead, ones, bitMark, searchMark, romMark, markOf, loneBit, loneDevice, firstEight, bitsOn, romOn, stageOn}
 use Rattle.bus.proofs.Laws.{both-small, both-marked}
 use Rattle.bus.proofs.Idle.{waits-is}
-use Rattle.bus.proofs.Stretches.{withDevice, aheadsOn}
+use Rattle.bus.proofs.Stretches.{aheadsOn}
 use Rattle.master.specs.declared.Master.{Master}
 use Rattle.master.specs.Bit.{readingOf}
 use Rattle.master.proofs.Laws.{both}
@@ -163,7 +161,7 @@ on-searching b n h = ap (λ (t : Bool). searching (cond t (b + n) b) Bit) (lt-lt
 
 on-waiting : (n : ℕ) (s : LineState) → waitsIn (s .stage) ≡ true → onState n s ≡ waitingState
 unfolding stageOn romOn
-on-waiting n s e = ap (onState n) (ap stateOf (waits-is (s .stage) e))
+on-waiting n s e = ap (onState n) (ap lineState (waits-is (s .stage) e))
 
 waits-always : (n : ℕ) (s : LineState) → waitsIn (s .stage) ≡ true → waitsIn (onState n s .stage) ≡ true
 unfolding waitsIn isWaiting
@@ -209,7 +207,7 @@ on-more at i p j (s ∷ states) low (inr (waits, rest)) =
 
 -- no bit
 waits-none : (s : LineState) → waitsIn (s .stage) ≡ true → onState 0 s ≡ s
-waits-none s e = on-waiting 0 s e ∙ sym (ap stateOf (waits-is (s .stage) e))
+waits-none s e = on-waiting 0 s e ∙ sym (ap lineState (waits-is (s .stage) e))
 
 all-wait-none : (states : List LineState) → Waits states → map (onState 0) states ≡ states
 all-wait-none [] h = refl
@@ -317,7 +315,7 @@ module _ (image : List ℕ) where
           let n : eqb marked ones ≡ false = not-ones marked (loneBit marked) refl (mark-low both-is p (s .stage) small) in
           let k = kept marked (suc p) b states low n e in
           let told = mark-told both-is p b (s .stage) small low (sym (ap loneBit (k .1)) ∙ e) in
-          inl (sym (ap loneDevice (k .1) ∙ told .device), ap stateOf (told .stands), k .0)
+          inl (sym (ap loneDevice (k .1) ∙ told .device), ap lineState (told .stands), k .0)
 
   -- ---- the slots of a bit of its code
 
@@ -394,7 +392,7 @@ module _ (image : List ℕ) where
   unfolding deviceIn deviceAt stepsLeave
   bit-on b i levels sized low is =
       let d = deviceIn image i waitingState in
-      let after : LineState → Bool → LineState = λ s l. stateAfter s (d .kind) (d .body) l in
+      let after : LineState → Bool → LineState = λ s l. stateAfterSlot s (d .kind) (d .body) l in
       ap (λ (s : LineState). after (after s (bitOf levels 1)) (bitOf levels 2)) (search-after-bit b (d .kind) (d .body) sized (omega arith) (bitOf levels 0))
       ∙ ap (λ (s : LineState). after s (bitOf levels 2)) (search-after-complement b (d .kind) (d .body) sized (omega arith) (bitOf levels 1))
       ∙ search-stays b (d .kind) (d .body) sized (omega arith) (bitOf levels 2) is low
@@ -403,7 +401,7 @@ module _ (image : List ℕ) where
   unfolding deviceIn deviceAt stageOn romOn
   waits-still levels p s e =
       let d = deviceIn image p waitingState in
-      let is : s ≡ waitingState = ap stateOf (waits-is (s .stage) e) in
+      let is : s ≡ waitingState = ap lineState (waits-is (s .stage) e) in
       ap (λ (z : LineState). stepsLeave (d .kind) (d .body) levels 3 z) is ∙ steps-waiting (d .kind) (d .body) levels 3 ∙ sym (ap (onState 1) is)
 
   all-wait-still : (levels p : ℕ) (states : List LineState) → Waits states → map (stepsOf levels 3) (devicesIn image p states) ≡ map (onState 1) states

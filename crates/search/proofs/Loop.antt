@@ -2,19 +2,20 @@
 -- Assumes nothing.
 use Prim.Native.Nat.{ℕ, zero, suc, _+_, _-_, _*_, _<_, _≤_}
 use mathlib.Core.Path.{_≡_, refl, sym, ap, subst, _∙_}
-use mathlib.Core.Bool.{Bool, true, false, not, cond, true≢false}
+use mathlib.Core.Bool.{Bool, true, false, not, true≢false}
 use mathlib.Core.List.{List, [], _∷_, _++_, map}
 use native.Mathlib.Omega.{arith}
 use lib.ListN.{length, take, drop, set, replicate, length-append, length-set, length-drop, take-append-drop}
 use lib.Seq.{sets, sets-eq, length-sets, take-at, drop-at, drop-append-add, drop-drop}
 use lib.Dec.{eqb}
-use borrow.Author.Tests.{lt-ltb, le-leb, ne-eqb}
+use borrow.Author.Tests.{lt-ltb, le-leb}
+use Rattle.bits.specs.Bit.{levelByte}
 use Rattle.kind.specs.Kind.{bodySize}
 use Rattle.image.specs.Image.{countOf, kindAt, offsetAt, bodyAt}
 use Rattle.image.proofs.Accepted.{Known, accepted-known, inside}
 use Rattle.device.specs.declared.LineState.{LineState}
 use Rattle.device.specs.Device.{waitingState}
-use Rattle.bus.specs.Bus.{Device, deviceOf, eventOf, nextState, nextDevice, answerByte, runTrace}
+use Rattle.bus.specs.Bus.{Device, deviceWith, eventOf, nextState, nextDevice, runTrace}
 use Rattle.bus.specs.Bus as Bus
 use Rattle.bus.specs.Run.{devicesFrom, statesOf}
 use Rattle.bus.specs.Loops.{placeIn, deviceAt, deviceIn, devicesIn}
@@ -24,7 +25,7 @@ use Rattle.master.specs.declared.Answer.{Answer}
 use Rattle.master.specs.declared.Step.{Step}
 use Rattle.master.specs.Master as M
 use Rattle.master.specs.Master.{codeBytes, event, end, endNumber, said, says, fresh, nextOf, stepOf}
-use Rattle.master.specs.Drive.{codeCompleted, over, passEvents}
+use Rattle.master.specs.Drive.{codeCompleted, over}
 use Rattle.master.proofs.Clock.{Reached, reached-started, started-passes, reached-on, completed-size}
 use Rattle.discovery.specs.Search.{Search, searchOf}
 use Rattle.discovery.specs.Searched.{Searched, eventsFor}
@@ -32,7 +33,6 @@ use Rattle.discovery.proofs.Driven.{driven-stops, driven-devices}
 use Rattle.discovery.proofs.Demand.{searched}
 use Rattle.discovery.proofs.Going as G
 use Rattle.discovery.proofs.Going.{Going, going-start, going-end, going-room, going-on, going-devices, linesAfter}
-use Rattle.search.specs.Refusal.{traceRoom}
 use Rattle.search.specs.Exchange.{hasEvent, eventIn, Ready}
 
 -- ---- the state
@@ -68,10 +68,10 @@ module _ (image : List ℕ) where
   -- exchange k, at a level
   abbrev pub exchangeWith : ℕ → State → Bool → State
   exchangeWith k s level =
-      state (stepOf (s .step .next) (answerByte level))
+      state (stepOf (s .step .next) (levelByte level))
       (statesAfter (s .lines) (sentIn s) level)
       (set (s .trace) k (sentIn s))
-      (sets (s .codes) (codeBytes * s .step .next .passes) (codeCompleted (s .step .next .passes) (nextOf (s .step .next) (answerByte level))))
+      (sets (s .codes) (codeBytes * s .step .next .passes) (codeCompleted (s .step .next .passes) (nextOf (s .step .next) (levelByte level))))
 
   unfoldable pub exchanges : ℕ → State → State
   exchanges zero s = s
@@ -93,20 +93,20 @@ module _ (image : List ℕ) where
   codes-length (suc k) s =
       let before = exchanges k s in
       let m = before .step .next in
-      length-sets (before .codes) (codeBytes * m .passes) (codeCompleted (m .passes) (nextOf m (answerByte (levelIn before)))) ∙ codes-length k s
+      length-sets (before .codes) (codeBytes * m .passes) (codeCompleted (m .passes) (nextOf m (levelByte (levelIn before)))) ∙ codes-length k s
 
   -- ---- the devices of an accepted image
 
   place-cut : (o size : ℕ) → o + size - o ≡ size
   place-cut o size = omega arith
 
-  pub device-same : (known : Known image) (i : ℕ) (s : LineState) → i < countOf image → deviceIn image i s ≡ deviceOf (kindAt image i) (bodyAt image i) s
+  pub device-same : (known : Known image) (i : ℕ) (s : LineState) → i < countOf image → deviceIn image i s ≡ deviceWith (kindAt image i) (bodyAt image i) s
   unfolding deviceIn deviceAt placeIn
   device-same known i s h =
       let o = offsetAt image i in
       let size = bodySize (kindAt image i) in
       rw (lt-ltb i (countOf image) h, le-leb (o + size) (length image) (inside image known i h))
-      (ap (λ (m : ℕ). deviceOf (kindAt image i) (take m (drop o image)) s) (place-cut o size))
+      (ap (λ (m : ℕ). deviceWith (kindAt image i) (take m (drop o image)) s) (place-cut o size))
 
   devices-same : (known : Known image) (i : ℕ) (states : List LineState) → i + length states ≤ countOf image → devicesIn image i states ≡ devicesFrom image i states
   unfolding devicesIn devicesFrom
@@ -138,11 +138,6 @@ end-said : (a : Answer) → hasEvent a ≡ false → (x : ℕ) × (said a ≡ en
 unfolding hasEvent said
 end-said (Answer.Event e) h = absurd (true≢false h)
 end-said (Answer.End x) h = (endNumber x, refl)
-
-room-is : (n : ℕ) → traceRoom n ≡ eventsFor n
-unfolding traceRoom
-room-is zero = refl
-room-is (suc n) = ap (λ (b : Bool). cond b 1 (passEvents * suc n)) (ne-eqb (suc n) 0 (λ z. absurd (omega arith)))
 
 few-for : (n : ℕ) → n ≤ 64 → eventsFor n < 65536
 few-for zero h = omega arith
@@ -241,7 +236,7 @@ module _ (image codes₀ trace₀ : List ℕ) (lines₀ : List LineState) (ready
         let e = sentIn image s in
         let m = s .step .next in
         let level = G.levelIn image (d .at) e in
-        let code = codeCompleted (m .passes) (nextOf m (answerByte level)) in
+        let code = codeCompleted (m .passes) (nextOf m (levelByte level)) in
         let g = going-on image demand e (d .going) (sends h) in
         let few = going-room image demand e (d .going) (sends h) in
         let cs = length-append (d .found) code in
@@ -249,15 +244,15 @@ module _ (image codes₀ trace₀ : List ℕ) (lines₀ : List LineState) (ready
         let whole : length ((d .found ++ code) ++ g .found) ≡ codeBytes * n = ap length (g .written) ∙ demand .size in
         let parts = length-append (d .found ++ code) (g .found) in
         let code-fits : length (d .found ++ code) ≤ length codes₀ = let r = ready .code-room in omega arith in
-        let trace-fits : length (d .sent ++ e ∷ []) ≤ length trace₀ = let r = ready .trace-room in let z = room-is n in let y = demand .events in omega arith in
-        let grown = completed-size (d .reached) (not (eqb (answerByte level) 0)) in
+        let trace-fits : length (d .sent ++ e ∷ []) ≤ length trace₀ = let r = ready .trace-room in let y = demand .events in omega arith in
+        let grown = completed-size (d .reached) (not (eqb (levelByte level) 0)) in
         subst (λ (b : Bool). Doing (suc k) (exchangeWith image k s b)) (sym (level-same e)) (record {
           at = linesAfter image (d .at) e;
           sent = d .sent ++ e ∷ [];
           found = d .found ++ code;
           going = g;
           answered = refl;
-          reached = reached-on (d .reached) (not (eqb (answerByte level) 0));
+          reached = reached-on (d .reached) (not (eqb (levelByte level) 0));
           count = let c = d .count in omega arith;
           sized = let z = d .sized in omega arith;
           traced = ap (λ (j : ℕ). set (s .trace) j e) (sym (d .count)) ∙ ap (λ (l : List ℕ). set l (length (d .sent)) e) (d .traced) ∙ over-more (d .sent) (e ∷ []) trace₀ trace-fits;
@@ -307,4 +302,4 @@ module _ (image codes₀ trace₀ : List ℕ) (lines₀ : List LineState) (ready
   events-few = let e = demand .events in let f = few-for n (accepted-known image (ready .accepted) .few) in omega arith
 
   pub fits : N ≤ length trace₀
-  fits = let r = ready .trace-room in let z = room-is n in let y = demand .events in omega arith
+  fits = let r = ready .trace-room in let y = demand .events in omega arith

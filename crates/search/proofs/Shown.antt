@@ -19,11 +19,11 @@ use Rattle.bus.specs.Loops.{servedOf, filled}
 use Rattle.bus.proofs.Laws.{none-first, filled-length}
 use Rattle.bus.proofs.Shown.{filled-is}
 use Rattle.discovery.specs.Search.{Search, searchOf}
-use Rattle.discovery.specs.Searched.{Searched}
+use Rattle.discovery.specs.Searched.{Searched, eventsFor}
 use Rattle.discovery.specs.Words.{Bytes}
 use Rattle.discovery.proofs.Demand.{searched}
 use Rattle.search.specs.declared.Found.{Found}
-use Rattle.search.specs.Refusal.{traceRoom, noSearchRoom, searchCauses, searchRefusal}
+use Rattle.search.specs.Refusal.{noSearchRoom, searchCauses, searchRefusal}
 use Rattle.search.specs.Found.{foundIn, SearchOutcome, searchOutcome, SearchLeaves, leftBySearch, searchedAt, searchedOf}
 use Rattle.search.specs.Exchange.{Ready}
 use Rattle.search.proofs.Counts.{room-decides}
@@ -53,13 +53,13 @@ module _ (image codes trace : List ℕ) (lines : List LineState) where
   unfolding searchRefusal searchCauses imageRefusal
   accepted e = none-first (imageCauses image) (cause 7 (noSearchRoom image (length codes) (length trace) (length lines)) ∷ []) e
 
-  room : number ≡ 0 → (codeBytes * n ≤ length codes) × (traceRoom n ≤ length trace) × (n ≤ length lines)
+  room : number ≡ 0 → (codeBytes * n ≤ length codes) × (eventsFor n ≤ length trace) × (n ≤ length lines)
   unfolding noSearchRoom
   room e =
       let none = clear (noSearchRoom image (length codes) (length trace) (length lines)) (sym (room-decides image (length codes) (length trace) (length lines) (accepted e)) ∙ e) in
-      let first = neither (ltb (length codes) (codeBytes * n) || ltb (length trace) (traceRoom n)) (ltb (length lines) n) none in
-      let second = neither (ltb (length codes) (codeBytes * n)) (ltb (length trace) (traceRoom n)) (first .0) in
-      (ltb-false (length codes) (codeBytes * n) (second .0), ltb-false (length trace) (traceRoom n) (second .1), ltb-false (length lines) n (first .1))
+      let first = neither (ltb (length codes) (codeBytes * n) || ltb (length trace) (eventsFor n)) (ltb (length lines) n) none in
+      let second = neither (ltb (length codes) (codeBytes * n)) (ltb (length trace) (eventsFor n)) (first .0) in
+      (ltb-false (length codes) (codeBytes * n) (second .0), ltb-false (length trace) (eventsFor n) (second .1), ltb-false (length lines) n (first .1))
 
   begun-is : number ≡ 0 → begun ≡ replicate n waitingState ++ drop n lines
   unfolding servedOf

@@ -2,7 +2,7 @@
 use Prim.Native.Nat.{ℕ, zero, suc, _+_, _-_, _*_, _/_, _<_, _≤_}
 use mathlib.Core.Path.{_≡_, refl, sym, ap, subst, _∙_}
 use mathlib.Core.Bool.{Bool, true, false, not, cond, _&&_, and-true}
-use mathlib.Core.List.{List, [], _∷_, _++_, map}
+use mathlib.Core.List.{List, _++_, map}
 use native.Mathlib.Omega.{arith}
 use native.Mathlib.Nat.{add-zero}
 use lib.ListN.{length, set, take, drop, length-map, take-append-drop}
@@ -10,7 +10,7 @@ use lib.Seq.{length-take-le, take-at, drop-at}
 use lib.Bits.{bitAnd}
 use lib.Dec.{leb}
 use borrow.Author.Tests.{lt-ltb, leb-true}
-use Rattle.bits.specs.Bit.{bitOf, bitAt}
+use Rattle.bits.specs.Bit.{bitOf, bitAt, levelByte}
 use Rattle.bits.specs.Slots.{slotsWord, levelsIn, countIn}
 use Rattle.bits.proofs.Slots.{levels-of, count-of}
 use Rattle.kind.specs.Kind.{bodySize}
@@ -20,8 +20,8 @@ use Rattle.device.specs.declared.LineState.{LineState}
 use Rattle.device.specs.Device.{waitingState}
 use Rattle.bus.specs.declared.Event.{Event}
 use Rattle.bus.specs.declared.Event.the-variants as E
-use Rattle.bus.specs.Bus.{Device, eventOf, answerByte}
-use Rattle.bus.specs.Loops.{devicesIn, ones, loneBit, loneDevice, firstEight, loneLevels, slotsGiven, stateGiven, statesGiven}
+use Rattle.bus.specs.Bus.{Device, eventOf}
+use Rattle.bus.specs.Loops.{devicesIn, ones, loneBit, loneDevice, loneLevels, slotsGiven, stateGiven, statesGiven}
 use Rattle.bus.proofs.Stretches.{aheadsOn}
 use Rattle.master.specs.declared.Answer.{Answer}
 use Rattle.master.specs.declared.Stage.{Stage}
@@ -190,7 +190,7 @@ module _ (image codes₀ trace₀ : List ℕ) (lines₀ : List LineState) (ready
       abbrev sends : ℕ
       sends = eventIn (bitTaken (st at′ .step .next) W .answer)
 
-      sends-bit : sends ≡ answerByte (bit j)
+      sends-bit : sends ≡ levelByte (bit j)
       unfolding eventIn M.answerOf
       sends-bit = ap (λ (s : Step). eventIn (s .answer)) steps-are ∙ slot-answer (bit j)
 
@@ -214,7 +214,7 @@ module _ (image codes₀ trace₀ : List ℕ) (lines₀ : List LineState) (ready
       next-place = let c = counts-three in omega arith
 
       lines-next′ : statesGiven image (st at′ .lines) (sentIn image (st at′)) (slotsWord given 3) ≡ map (onState (suc j)) states ++ drop n (st k .lines)
-      unfolding statesGiven stateGiven slotsGiven eventIn answerByte
+      unfolding statesGiven stateGiven slotsGiven eventIn levelByte
       lines-next′ =
           ap (λ (v : ℕ). map (stateGiven (eventOf v) (levelsIn (slotsWord given 3)) (countIn (slotsWord given 3))) (D at′) ++ drop n (st at′ .lines)) (ap eventIn answers-slot)
           ∙ ap (λ (e : Event). map (stateGiven e (levelsIn (slotsWord given 3)) (countIn (slotsWord given 3))) (D at′) ++ drop n (st at′ .lines)) (slot-of true)
@@ -243,7 +243,7 @@ module _ (image codes₀ trace₀ : List ℕ) (lines₀ : List LineState) (ready
     all-followed (suc j) h = followed-on j (omega arith) (all-followed j (omega arith))
 
     of-code : Leaves k (codeTold m levels) (codeTrace (st k .trace) k levels from (bitsLeft m)) (st k .codes)
-    unfolding codeTold bitsLeft followed statesGiven stateGiven slotsGiven eventIn answerByte M.answerOf
+    unfolding codeTold bitsLeft followed statesGiven stateGiven slotsGiven eventIn levelByte M.answerOf
     of-code =
         let l = low in
         let c = 63 - from in

@@ -2,31 +2,29 @@
 use Prim.Native.Nat.{ℕ, zero, suc, _+_, _-_, _*_, _/_, _<_, _≤_}
 use mathlib.Core.Path.{_≡_, refl, sym, ap, subst, _∙_}
 use mathlib.Core.Logic.{_⊎_, inl, inr}
-use mathlib.Core.Bool.{Bool, true, false, not, cond, _&&_, and-true, or-true, true≢false}
+use mathlib.Core.Bool.{Bool, true, false, not, cond, _&&_, or-true, true≢false}
 use mathlib.Core.List.{List, [], _∷_, _++_, map}
 use native.Mathlib.Omega.{arith}
 use native.Mathlib.Nat.{add-zero, add-suc}
 use native.Mathlib.Numerals.{add-one}
-use lib.ListN.{length, set, take, drop, length-map, length-drop, take-append-drop}
+use lib.ListN.{length, set, take, drop, length-map, take-append-drop}
 use lib.Seq.{sets, length-take-le, take-suc, take-at, drop-at}
 use lib.Bits.{bitAnd, and-le-l}
-use lib.Dec.{eqb, ltb, leb}
-use borrow.Author.Tests.{lt-ltb, le-ltb, ltb-true, ltb-false, leb-true, eqb-true, ne-eqb}
-use Rattle.bits.specs.Bit.{bitOf, bitAt}
+use lib.Dec.{eqb, ltb}
+use borrow.Author.Tests.{lt-ltb, le-ltb, ltb-true, ltb-false, eqb-true, ne-eqb}
+use Rattle.bits.specs.Bit.{bitOf, levelByte}
 use Rattle.bits.specs.Slots.{slotsWord, levelsIn, countIn}
 use Rattle.bits.proofs.Slots.{levels-of, count-of}
 use Rattle.bits.proofs.Words.{bit-and}
-use Rattle.kind.specs.Kind.{bodySize}
-use Rattle.image.specs.Image.{countOf, kindAt, offsetAt, bodyAt}
-use Rattle.image.proofs.Accepted.{accepted-known, inside}
+use Rattle.image.specs.Image.{countOf}
 use Rattle.device.specs.declared.LineState.{LineState}
 use Rattle.device.specs.Device.{waitingState}
 use Rattle.device.specs.Device as Device
 use Rattle.device.specs.Through.{knownAt, slotLeaves, slotsLeave, stepsLeave}
 use Rattle.bus.specs.declared.Event.{Event}
 use Rattle.bus.specs.declared.Event.the-variants as E
-use Rattle.bus.specs.Bus.{Device, eventOf, presence, levelOf, nextState, nextBody, nextDevice, answerByte}
-use Rattle.bus.specs.Loops.{deviceAt, deviceIn, devicesIn, lineAt, servedOf, ones, aheadWith, aheads, loneBit, loneDevice, afterSlots, slotsGiven, stateGiven, statesGiven}
+use Rattle.bus.specs.Bus.{Device, eventOf, presence, levelOf, nextState, nextBody, nextDevice}
+use Rattle.bus.specs.Loops.{deviceAt, deviceIn, devicesIn, lineAt, servedOf, ones, aheadWith, aheads, afterSlots, slotsGiven, stateGiven, statesGiven}
 use Rattle.bus.proofs.States.{devices-more, served-take}
 use Rattle.bus.proofs.Laws.{served-lines}
 use Rattle.bus.proofs.Stretches.{withDevice, aheadsOn, aheads-more, level-ahead}
@@ -36,14 +34,14 @@ use Rattle.master.specs.declared.Stage.the-variants.{Fresh, Reset, Command, Fir
 use Rattle.master.specs.declared.Master.{Master}
 use Rattle.master.specs.declared.Step.{Step}
 use Rattle.master.specs.Master as M
-use Rattle.master.specs.Master.{commandBits, mostPasses, event, slot, said, withStage, inRange, stageInRange, stageAfter, afterCommand, after, nextOf, stepOf}
-use Rattle.master.specs.Bit.{readsBit, levelNumber, bitSteps, readingOf, withDirections, followedBits, followed}
+use Rattle.master.specs.Master.{commandBits, mostPasses, event, slot, said, withStage, inRange, stageInRange, stepByStage, afterCommand, afterLevel, nextOf, stepOf}
+use Rattle.master.specs.Bit.{readsBit, bitSteps}
 use Rattle.master.specs.Drive.{codeCompleted}
 use Rattle.master.proofs.Laws.{both, goes-by-stage}
-use Rattle.master.proofs.Bit.{Absent, Directed, bit-read, none-completed, Reading, read-at, followed-reads, reads-bit, followed-next}
+use Rattle.master.proofs.Bit.{number-read, Absent, Directed, bit-read, none-completed}
 use Rattle.search.specs.declared.Told.{Told}
-use Rattle.search.specs.Exchange.{hasEvent, eventIn, Ready, oneLevel, toldOne, oneCodes, bitKnown, bitMask, bitTrace, bitTold, beginsCommand, commandTrace, commandMaster, commandTold, toldBit, toldCommand, bitTaken, levelTold}
-use Rattle.search.proofs.Loop.{levelOn, statesAfter, State, device-same, exchanges, sentIn, levelIn, lines-length, doing, cannot, devices-next}
+use Rattle.search.specs.Exchange.{hasEvent, eventIn, Ready, oneLevel, toldOne, oneCodes, bitKnown, bitMask, bitTrace, bitTold, beginsCommand, commandTrace, commandMaster, commandTold, bitTaken, levelTold}
+use Rattle.search.proofs.Loop.{levelOn, statesAfter, State, exchanges, sentIn, levelIn, lines-length, doing, cannot, devices-next}
 use Rattle.search.proofs.Loop as Loop
 use Rattle.search.proofs.Lone.{onState, stepsOf}
 
@@ -103,18 +101,18 @@ states-next image sent levels j i (s ∷ states) =
 
 -- ---- events
 
-pub slot-of : (b : Bool) → eventOf (answerByte b) ≡ E.Slot b
-unfolding eventOf answerByte
+pub slot-of : (b : Bool) → eventOf (levelByte b) ≡ E.Slot b
+unfolding eventOf levelByte
 slot-of true = refl
 slot-of false = refl
 
-answer-bit : (b : Bool) → bitOf (answerByte b) 0 ≡ b
-unfolding bitOf answerByte
+answer-bit : (b : Bool) → bitOf (levelByte b) 0 ≡ b
+unfolding bitOf levelByte
 answer-bit true = refl
 answer-bit false = refl
 
-answer-few : (b : Bool) → answerByte b < 4294967296
-unfolding answerByte
+answer-few : (b : Bool) → levelByte b < 4294967296
+unfolding levelByte
 answer-few true = omega arith
 answer-few false = omega arith
 
@@ -122,18 +120,18 @@ answer-few false = omega arith
 
 abbrev masters : Master → ℕ → ℕ → Master
 masters m levels zero = m
-masters m levels (suc j) = nextOf (masters m levels j) (answerByte (bitOf levels j))
+masters m levels (suc j) = nextOf (masters m levels j) (levelByte (bitOf levels j))
 
 abbrev stepAt : Master → Step
 stepAt m = record { answer = M.answerOf (m .stage); next = m }
 
 abbrev eventsTrace : List ℕ → ℕ → (ℕ → Bool) → ℕ → List ℕ
 eventsTrace trace k sends zero = trace
-eventsTrace trace k sends (suc j) = set (eventsTrace trace k sends j) (k + j) (answerByte (sends j))
+eventsTrace trace k sends (suc j) = set (eventsTrace trace k sends j) (k + j) (levelByte (sends j))
 
 -- c slots, in which the master sends these bits, at these levels, and completes no code
 record Script (m : Master) (ahead levels c : ℕ) (sends : ℕ → Bool) : Type 0 where
-  pub slots : (j : ℕ) → j < c → M.answerOf (masters m levels j .stage) ≡ Answer.Event (answerByte (sends j))
+  pub slots : (j : ℕ) → j < c → M.answerOf (masters m levels j .stage) ≡ Answer.Event (levelByte (sends j))
   pub level : (j : ℕ) → j < c → bitOf levels j ≡ (sends j && bitOf (levelsIn ahead) j)
   pub no-code : (j : ℕ) → j < c → codeCompleted (masters m levels j .passes) (masters m levels (suc j)) ≡ []
   pub known : (j : ℕ) → j < c → knownAt ahead j ≡ true
@@ -146,20 +144,10 @@ unfolding said
 event-is (Answer.Event b) e h = cc
 event-is (Answer.End x) e h = let z : _≡_ {A = ℕ} 0 1 = cc in absurd (omega arith)
 
-pub slot-answer : (b : Bool) → slot b ≡ answerByte b
-unfolding slot answerByte
+pub slot-answer : (b : Bool) → slot b ≡ levelByte b
+unfolding slot levelByte
 slot-answer true = refl
 slot-answer false = refl
-
-level-number : (b : Bool) → answerByte b ≡ levelNumber b
-unfolding answerByte levelNumber
-level-number true = refl
-level-number false = refl
-
-level-read : (b : Bool) → not (eqb (answerByte b) 0) ≡ b
-unfolding answerByte
-level-read true = refl
-level-read false = refl
 
 -- the bits of a mask
 mask-first : (d : ℕ) → bitOf (bitMask d) 0 ≡ true
@@ -178,8 +166,8 @@ mask-second d = choose (eqb d 0)
     choose true = refl
     choose false = refl
 
-pub mask-third : (b : Bool) → bitOf (bitMask (answerByte b)) 2 ≡ b
-unfolding bitMask bitOf answerByte
+pub mask-third : (b : Bool) → bitOf (bitMask (levelByte b)) 2 ≡ b
+unfolding bitMask bitOf levelByte
 mask-third true = refl
 mask-third false = refl
 
@@ -235,39 +223,39 @@ module _ (m : Master) (word : ℕ) (reads : readsBit m ≡ true) (knows : bitKno
   two = masters m bitLevels 2
 
   -- the master that was given both levels is the one that `bit` steps
-  same-two : nextOf (nextOf m (levelNumber (bitOf (levelsIn word) 0))) (levelNumber (bitOf (levelsIn word) 1)) ≡ two
+  same-two : nextOf (nextOf m (levelByte (bitOf (levelsIn word) 0))) (levelByte (bitOf (levelsIn word) 1)) ≡ two
   same-two =
-      ap (λ (l : ℕ). nextOf (nextOf m l) (levelNumber (bitOf (levelsIn word) 1))) (sym (level-number (bitOf (levelsIn word) 0)) ∙ ap answerByte (sym bit-of-first))
-      ∙ ap (λ (l : ℕ). nextOf (nextOf m (answerByte (bitOf bitLevels 0))) l) (sym (level-number (bitOf (levelsIn word) 1)) ∙ ap answerByte (sym bit-of-second))
+      ap (λ (l : ℕ). nextOf (nextOf m l) (levelByte (bitOf (levelsIn word) 1))) (ap levelByte (sym bit-of-first))
+      ∙ ap (λ (l : ℕ). nextOf (nextOf m (levelByte (bitOf bitLevels 0))) l) (ap levelByte (sym bit-of-second))
 
   directed : Directed two
-  directed = choose (bit-read m reads .after-both (answerByte (bitOf bitLevels 0)) (answerByte (bitOf bitLevels 1)))
+  directed = choose (bit-read m reads .after-both (levelByte (bitOf bitLevels 0)) (levelByte (bitOf bitLevels 1)))
     where
-      choose : ((not (eqb (answerByte (bitOf bitLevels 0)) 0) ≡ true) × (not (eqb (answerByte (bitOf bitLevels 1)) 0) ≡ true) × Absent two) ⊎ Directed two → Directed two
-      choose (inl x) = absurd (bit-known word knows .1 (sym bit-of-first ∙ sym (level-read (bitOf bitLevels 0)) ∙ x .0) (sym bit-of-second ∙ sym (level-read (bitOf bitLevels 1)) ∙ x .1))
+      choose : ((not (eqb (levelByte (bitOf bitLevels 0)) 0) ≡ true) × (not (eqb (levelByte (bitOf bitLevels 1)) 0) ≡ true) × Absent two) ⊎ Directed two → Directed two
+      choose (inl x) = absurd (bit-known word knows .1 (sym bit-of-first ∙ sym (number-read (bitOf bitLevels 0)) ∙ x .0) (sym bit-of-second ∙ sym (number-read (bitOf bitLevels 1)) ∙ x .1))
       choose (inr d) = d
 
   abbrev direction : Bool
   direction = directed .direction
 
-  answers-two : M.answerOf (two .stage) ≡ Answer.Event (answerByte direction)
-  answers-two = event-is (M.answerOf (two .stage)) (answerByte direction) (directed .sends ∙ ap event (slot-answer direction))
+  answers-two : M.answerOf (two .stage) ≡ Answer.Event (levelByte direction)
+  answers-two = event-is (M.answerOf (two .stage)) (levelByte direction) (directed .sends ∙ ap event (slot-answer direction))
 
-  told-answer : told .answer ≡ Answer.Event (answerByte direction)
+  told-answer : told .answer ≡ Answer.Event (levelByte direction)
   unfolding bitSteps
   told-answer = ap (λ (x : Master). M.answerOf (x .stage)) same-two ∙ answers-two
 
-  told-direction : eventIn (told .answer) ≡ answerByte direction
+  told-direction : eventIn (told .answer) ≡ levelByte direction
   unfolding eventIn
   told-direction = ap eventIn told-answer
 
   bit-script : Script m word bitLevels 3 (bitSends direction)
-  unfolding bitSends answerByte
+  unfolding bitSends levelByte
   bit-script = record { slots = slots; level = level; no-code = no-code; known = counted word 3 (bit-known word knows .0); few = omega arith }
     where
-      slots : (j : ℕ) → j < 3 → M.answerOf (masters m bitLevels j .stage) ≡ Answer.Event (answerByte (bitSends direction j))
+      slots : (j : ℕ) → j < 3 → M.answerOf (masters m bitLevels j .stage) ≡ Answer.Event (levelByte (bitSends direction j))
       slots zero h = event-is (M.answerOf (m .stage)) 1 (bit-read m reads .first-slot)
-      slots (suc zero) h = event-is (M.answerOf (masters m bitLevels 1 .stage)) 1 (bit-read m reads .second-slot (answerByte (bitOf bitLevels 0)))
+      slots (suc zero) h = event-is (M.answerOf (masters m bitLevels 1 .stage)) 1 (bit-read m reads .second-slot (levelByte (bitOf bitLevels 0)))
       slots (suc (suc zero)) h = answers-two
       slots (suc (suc (suc j))) h = absurd (omega arith)
 
@@ -278,26 +266,26 @@ module _ (m : Master) (word : ℕ) (reads : readsBit m ≡ true) (knows : bitKno
       level (suc (suc (suc j))) h = absurd (omega arith)
 
       no-code : (j : ℕ) → j < 3 → codeCompleted (masters m bitLevels j .passes) (masters m bitLevels (suc j)) ≡ []
-      no-code zero h = none-completed (m .passes) (masters m bitLevels 1) (bit-read m reads .first-passes (answerByte (bitOf bitLevels 0)))
-      no-code (suc zero) h = none-completed (masters m bitLevels 1 .passes) two (bit-read m reads .both-passes (answerByte (bitOf bitLevels 0)) (answerByte (bitOf bitLevels 1)) ∙ sym (bit-read m reads .first-passes (answerByte (bitOf bitLevels 0))))
-      no-code (suc (suc zero)) h = none-completed (two .passes) (masters m bitLevels 3) (ap (λ (x : Master). x .passes) (directed .unread (answerByte (bitOf bitLevels 2))) ∙ directed .next-passes)
+      no-code zero h = none-completed (m .passes) (masters m bitLevels 1) (bit-read m reads .first-passes (levelByte (bitOf bitLevels 0)))
+      no-code (suc zero) h = none-completed (masters m bitLevels 1 .passes) two (bit-read m reads .both-passes (levelByte (bitOf bitLevels 0)) (levelByte (bitOf bitLevels 1)) ∙ sym (bit-read m reads .first-passes (levelByte (bitOf bitLevels 0))))
+      no-code (suc (suc zero)) h = none-completed (two .passes) (masters m bitLevels 3) (ap (λ (x : Master). x .passes) (directed .unread (levelByte (bitOf bitLevels 2))) ∙ directed .next-passes)
       no-code (suc (suc (suc j))) h = absurd (omega arith)
 
   -- the step after it
   bit-step : bitTold told word .step ≡ stepAt (masters m bitLevels 3)
   unfolding bitTold bitSteps
   bit-step =
-      let next : nextOf two 0 ≡ masters m bitLevels 3 = sym (directed .unread (answerByte (bitOf bitLevels 2))) in
+      let next : nextOf two 0 ≡ masters m bitLevels 3 = sym (directed .unread (levelByte (bitOf bitLevels 2))) in
       let reads-on : Answer.Event 1 ≡ M.answerOf (nextOf two 0 .stage) = sym (event-is (M.answerOf (nextOf two 0 .stage)) 1 (directed .reads-next)) in
       ap (λ (x : Master). record { answer = Answer.Event 1; next = nextOf x 0 }) same-two
       ∙ ap (λ (a : Answer). record { answer = a; next = nextOf two 0 }) reads-on
       ∙ ap stepAt next
 
   bit-trace : (trace : List ℕ) (k : ℕ) → bitTrace trace k (eventIn (told .answer)) ≡ eventsTrace trace k (bitSends direction) 3
-  unfolding bitTrace bitSends answerByte
+  unfolding bitTrace bitSends levelByte
   bit-trace trace k =
       ap (bitTrace trace k) told-direction
-      ∙ ap (λ (i : ℕ). set (set (set trace i 1) (k + 1) 1) (k + 2) (answerByte direction)) (sym (add-zero k))
+      ∙ ap (λ (i : ℕ). set (set (set trace i 1) (k + 1) 1) (k + 2) (levelByte direction)) (sym (add-zero k))
 
 -- ---- the slots of the search command
 
@@ -330,8 +318,8 @@ stage-next j h = choose (ltb j 7) refl
     choose true e = let l = ltb-true j 7 e in ap Command (add-one j) ∙ sym (ap (λ (t : Bool). cond t (Command (suc j)) (FirstRead 0)) (lt-ltb (suc j) 8 (omega arith)))
     choose false e = let l = ltb-false j 7 e in sym (ap (λ (t : Bool). cond t (Command (suc j)) (FirstRead 0)) (le-ltb (suc j) 8 (omega arith)))
 
-command-next : (m : Master) (j : ℕ) (level : Bool) → m .passes < mostPasses → j < 8 → after (withStage m (Command j)) level ≡ withStage m (commandStage (suc j))
-unfolding inRange stageInRange stageAfter afterCommand withStage
+command-next : (m : Master) (j : ℕ) (level : Bool) → m .passes < mostPasses → j < 8 → afterLevel (withStage m (Command j)) level ≡ withStage m (commandStage (suc j))
+unfolding inRange stageInRange stepByStage afterCommand withStage
 command-next m j level going h =
     let range : inRange (withStage m (Command j)) ≡ true = rw (lt-ltb j commandBits h, lt-ltb (m .passes) mostPasses going) in
     goes-by-stage (withStage m (Command j)) (Command j) level refl range ∙ ap (withStage m) (stage-next j h)
@@ -344,8 +332,8 @@ module _ (m : Master) (word : ℕ) (command : AtCommand m) (many : 8 ≤ countIn
   unfolding withStage
   command-master zero h = ap (λ (s : Stage). withStage m s) (command .stands)
   command-master (suc j) h =
-      ap (λ (x : Master). nextOf x (answerByte (bitOf commandLevels j))) (command-master j (omega arith) ∙ ap (λ (t : Bool). withStage m (cond t (Command j) (FirstRead 0))) (lt-ltb j 8 h))
-      ∙ command-next m j (not (eqb (answerByte (bitOf commandLevels j)) 0)) (command .going) h
+      ap (λ (x : Master). nextOf x (levelByte (bitOf commandLevels j))) (command-master j (omega arith) ∙ ap (λ (t : Bool). withStage m (cond t (Command j) (FirstRead 0))) (lt-ltb j 8 h))
+      ∙ command-next m j (not (eqb (levelByte (bitOf commandLevels j)) 0)) (command .going) h
 
   command-passes : (j : ℕ) → j ≤ 8 → masters m commandLevels j .passes ≡ m .passes
   unfolding withStage
@@ -355,7 +343,7 @@ module _ (m : Master) (word : ℕ) (command : AtCommand m) (many : 8 ≤ countIn
   unfolding withStage M.answerOf
   command-script = record { slots = slots; level = level; no-code = no-code; known = counted word 8 many; few = omega arith }
     where
-      slots : (j : ℕ) → j < 8 → M.answerOf (masters m commandLevels j .stage) ≡ Answer.Event (answerByte (bitOf 0xF0 j))
+      slots : (j : ℕ) → j < 8 → M.answerOf (masters m commandLevels j .stage) ≡ Answer.Event (levelByte (bitOf 0xF0 j))
       slots j h =
           ap (λ (x : Master). M.answerOf (x .stage)) (command-master j (omega arith))
           ∙ ap (λ (t : Bool). M.answerOf (cond t (Command j) (FirstRead 0))) (lt-ltb j 8 h)
@@ -374,7 +362,7 @@ module _ (m : Master) (word : ℕ) (command : AtCommand m) (many : 8 ≤ countIn
   command-trace : (trace : List ℕ) (k j : ℕ) → commandTrace trace k j ≡ eventsTrace trace k (bitOf 0xF0) j
   unfolding commandTrace
   command-trace trace k zero = refl
-  command-trace trace k (suc j) = ap (λ (t : List ℕ). set t (k + j) (answerByte (bitOf 0xF0 j))) (command-trace trace k j)
+  command-trace trace k (suc j) = ap (λ (t : List ℕ). set t (k + j) (levelByte (bitOf 0xF0 j))) (command-trace trace k j)
 
 module _ (image codes₀ trace₀ : List ℕ) (lines₀ : List LineState) (ready : Ready image codes₀ trace₀ lines₀) where
   abbrev n : ℕ
@@ -433,10 +421,10 @@ module _ (image codes₀ trace₀ : List ℕ) (lines₀ : List LineState) (ready
       abbrev bit : Bool
       bit = bitOf levels j
 
-      answers : st at .step .answer ≡ Answer.Event (answerByte (sends j))
+      answers : st at .step .answer ≡ Answer.Event (levelByte (sends j))
       answers = ap (λ (s : Step). s .answer) (r .step-is) ∙ script .slots j small
 
-      sent : sentIn image (st at) ≡ answerByte (sends j)
+      sent : sentIn image (st at) ≡ levelByte (sends j)
       unfolding eventIn
       sent = ap eventIn answers
 
@@ -468,7 +456,7 @@ module _ (image codes₀ trace₀ : List ℕ) (lines₀ : List LineState) (ready
 
       step-next : st (suc at) .step ≡ stepAt (masters (st k .step .next) levels (suc j))
       unfolding exchanges
-      step-next = ap (λ (b : Bool). stepOf (st at .step .next) (answerByte b)) is-level ∙ ap (λ (m : Master). stepOf m (answerByte bit)) is-master
+      step-next = ap (λ (b : Bool). stepOf (st at .step .next) (levelByte b)) is-level ∙ ap (λ (m : Master). stepOf m (levelByte bit)) is-master
 
       devices-step : D (suc at) ≡ map (afterSlots levels (suc j)) (D k)
       unfolding exchanges
@@ -492,13 +480,13 @@ module _ (image codes₀ trace₀ : List ℕ) (lines₀ : List LineState) (ready
 
       trace-next : st (suc at) .trace ≡ eventsTrace (st k .trace) k sends (suc j)
       unfolding exchanges
-      trace-next = ap (λ (e : ℕ). set (st at .trace) at e) sent ∙ ap (λ (t : List ℕ). set t at (answerByte (sends j))) (r .trace-is)
+      trace-next = ap (λ (e : ℕ). set (st at .trace) at e) sent ∙ ap (λ (t : List ℕ). set t at (levelByte (sends j))) (r .trace-is)
 
       codes-next : st (suc at) .codes ≡ st k .codes
       unfolding exchanges
       codes-next =
-          ap (λ (b : Bool). sets (st at .codes) (8 * st at .step .next .passes) (codeCompleted (st at .step .next .passes) (nextOf (st at .step .next) (answerByte b)))) is-level
-          ∙ ap (λ (m : Master). sets (st at .codes) (8 * m .passes) (codeCompleted (m .passes) (nextOf m (answerByte bit)))) is-master
+          ap (λ (b : Bool). sets (st at .codes) (8 * st at .step .next .passes) (codeCompleted (st at .step .next .passes) (nextOf (st at .step .next) (levelByte b)))) is-level
+          ∙ ap (λ (m : Master). sets (st at .codes) (8 * m .passes) (codeCompleted (m .passes) (nextOf m (levelByte bit)))) is-master
           ∙ ap (sets (st at .codes) (8 * masters (st k .step .next) levels j .passes)) (script .no-code j small)
           ∙ r .codes-are
 
@@ -571,9 +559,9 @@ module _ (image codes₀ trace₀ : List ℕ) (lines₀ : List LineState) (ready
       by-event E.Reset = ap (λ (m : ℕ). eqb m 0) (sym (devices-many k)) ∙ none (D k)
       by-event E.Pulse = refl
 
-  one-states : (e : Event) (level : Bool) (ds : List Device) → map (stateGiven e (answerByte level) 1) ds ≡ map (nextState e level) ds
+  one-states : (e : Event) (level : Bool) (ds : List Device) → map (stateGiven e (levelByte level) 1) ds ≡ map (nextState e level) ds
   unfolding stateGiven slotsGiven nextState stepsLeave
-  one-states (E.Slot b) level ds = ap (λ (l : Bool). map (λ (d : Device). Device.stateAfter (d .state) (d .kind) (d .body) l) ds) (answer-bit level)
+  one-states (E.Slot b) level ds = ap (λ (l : Bool). map (λ (d : Device). Device.stateAfterSlot (d .state) (d .kind) (d .body) l) ds) (answer-bit level)
   one-states E.Reset level ds = refl
   one-states E.Pulse level ds = refl
 
@@ -581,10 +569,10 @@ module _ (image codes₀ trace₀ : List ℕ) (lines₀ : List LineState) (ready
   unfolding toldOne oneCodes exchanges statesGiven statesAfter
   of-one k small = subst (λ (b : Bool). Turn k (toldOne (st k .step) b) (set (st k .trace) k (sentIn image (st k))) (oneCodes (st k .codes) (st k .step .next) b)) (sym (one-level k)) turned
     where
-      count : countIn (slotsWord (answerByte (levelIn image (st k))) 1) ≡ 1
-      count = count-of (answerByte (levelIn image (st k))) 1 (answer-few (levelIn image (st k))) (omega arith)
+      count : countIn (slotsWord (levelByte (levelIn image (st k))) 1) ≡ 1
+      count = count-of (levelByte (levelIn image (st k))) 1 (answer-few (levelIn image (st k))) (omega arith)
 
-      next : k + countIn (slotsWord (answerByte (levelIn image (st k))) 1) ≡ suc k
+      next : k + countIn (slotsWord (levelByte (levelIn image (st k))) 1) ≡ suc k
       next = let c = count in omega arith
 
       turned : Turn k (toldOne (st k .step) (levelIn image (st k))) (set (st k .trace) k (sentIn image (st k))) (oneCodes (st k .codes) (st k .step .next) (levelIn image (st k)))
@@ -594,8 +582,8 @@ module _ (image codes₀ trace₀ : List ℕ) (lines₀ : List LineState) (ready
         step-is = ap (λ (i : ℕ). st i .step) (sym next);
         trace-is = ap (λ (i : ℕ). st i .trace) (sym next);
         codes-are = ap (λ (i : ℕ). st i .codes) (sym next);
-        lines-are = ap (λ (w : ℕ). map (stateGiven (eventOf (sentIn image (st k))) w (countIn (slotsWord (answerByte (levelIn image (st k))) 1))) (D k) ++ drop n (st k .lines)) (levels-of (answerByte (levelIn image (st k))) 1 (answer-few (levelIn image (st k))))
-            ∙ ap (λ (x : ℕ). map (stateGiven (eventOf (sentIn image (st k))) (answerByte (levelIn image (st k))) x) (D k) ++ drop n (st k .lines)) count
+        lines-are = ap (λ (w : ℕ). map (stateGiven (eventOf (sentIn image (st k))) w (countIn (slotsWord (levelByte (levelIn image (st k))) 1))) (D k) ++ drop n (st k .lines)) (levels-of (levelByte (levelIn image (st k))) 1 (answer-few (levelIn image (st k))))
+            ∙ ap (λ (x : ℕ). map (stateGiven (eventOf (sentIn image (st k))) (levelByte (levelIn image (st k))) x) (D k) ++ drop n (st k .lines)) count
             ∙ ap (λ (l : List LineState). l ++ drop n (st k .lines)) (one-states (eventOf (sentIn image (st k))) (levelIn image (st k)) (D k))
             ∙ ap (λ (i : ℕ). st i .lines) (sym next);
       }

@@ -7,7 +7,7 @@ use lib.ListN.{length, take, replicate, set}
 use lib.Seq.{sets}
 use lib.Bits.{bitAnd}
 use lib.Dec.{eqb, ltb, leb}
-use Rattle.bits.specs.Bit.{bitOf, bitAt}
+use Rattle.bits.specs.Bit.{bitOf, bitAt, levelByte}
 use Rattle.bits.specs.Slots.{slotsWord, levelsIn, countIn}
 use Rattle.image.specs.Image.{countOf}
 use Rattle.image.specs.Refusal.{imageRefusal}
@@ -23,11 +23,11 @@ use Rattle.master.specs.Drive.{codeCompleted}
 use Rattle.master.specs.Bit.{readsBit, bitSteps, readingOf, followed}
 use Rattle.bus.specs.declared.Event.{Event}
 use Rattle.bus.specs.declared.Event.the-variants as Event
-use Rattle.bus.specs.Bus.{eventOf, answerByte}
+use Rattle.bus.specs.Bus.{eventOf}
 use Rattle.bus.specs.Loops.{loneBit, loneLevels}
 use Rattle.discovery.specs.Words.{Bytes}
 use Rattle.search.specs.declared.Told.{Told}
-use Rattle.search.specs.Refusal.{traceRoom}
+use Rattle.discovery.specs.Searched.{eventsFor}
 
 -- a step's answer is an event or the end
 unfoldable pub hasEvent : Answer → Bool
@@ -44,7 +44,7 @@ pub record Ready (image codes trace : List ℕ) (lines : List LineState) : Type 
   pub bytes : Bytes image
   pub accepted : imageRefusal image ≡ 0
   pub code-room : codeBytes * countOf image ≤ length codes
-  pub trace-room : traceRoom (countOf image) ≤ length trace
+  pub trace-room : eventsFor (countOf image) ≤ length trace
   pub line-room : countOf image ≤ length lines
   pub waiting : take (countOf image) lines ≡ replicate (countOf image) waitingState
 
@@ -57,10 +57,10 @@ oneLevel Event.Reset n ahead = eqb n 0
 oneLevel Event.Pulse n ahead = true
 
 unfoldable pub toldOne : Step → Bool → Told
-toldOne step level = record { step = stepOf (step .next) (answerByte level); stretch = slotsWord (answerByte level) 1 }
+toldOne step level = record { step = stepOf (step .next) (levelByte level); stretch = slotsWord (levelByte level) 1 }
 
 unfoldable pub oneCodes : List ℕ → Master → Bool → List ℕ
-oneCodes codes m level = sets codes (codeBytes * m .passes) (codeCompleted (m .passes) (nextOf m (answerByte level)))
+oneCodes codes m level = sets codes (codeBytes * m .passes) (codeCompleted (m .passes) (nextOf m (levelByte level)))
 
 -- a bit: its three slots are known, and a device is left in it
 unfoldable pub bitKnown : ℕ → Bool
@@ -93,7 +93,7 @@ beginsCommand (Ended e) passes = false
 -- its first j slots
 unfoldable pub commandTrace : List ℕ → ℕ → ℕ → List ℕ
 commandTrace trace k zero = trace
-commandTrace trace k (suc j) = set (commandTrace trace k j) (k + j) (answerByte (bitOf 0xF0 j))
+commandTrace trace k (suc j) = set (commandTrace trace k j) (k + j) (levelByte (bitOf 0xF0 j))
 
 unfoldable pub commandMaster : Master → Master
 commandMaster m = withStage m (FirstRead 0)
@@ -115,7 +115,7 @@ bitsLeft m = codeBits - 1 - readingOf m
 -- the events of j bits from `at` on, where bit b of `levels` is the level of the first read slot of bit b
 unfoldable pub codeTrace : List ℕ → ℕ → List ℕ → ℕ → ℕ → List ℕ
 codeTrace trace k levels at zero = trace
-codeTrace trace k levels at (suc j) = bitTrace (codeTrace trace k levels at j) (k + 3 * j) (answerByte (bitAt levels (at + j)))
+codeTrace trace k levels at (suc j) = bitTrace (codeTrace trace k levels at j) (k + 3 * j) (levelByte (bitAt levels (at + j)))
 
 unfoldable pub codeTold : Master → List ℕ → Told
 codeTold m levels = record { step = record { answer = Answer.Event readSlot; next = followed m levels }; stretch = slotsWord 0 (3 * bitsLeft m) }

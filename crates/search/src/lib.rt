@@ -18,15 +18,15 @@ ghost use Rattle.image.specs.Image.{countOf};
 ghost use Rattle.master.specs.Master.{codeBytes, fresh, nextOf, stepOf};
 ghost use Rattle.master.specs.Bit.{bitSteps, readingOf};
 ghost use Rattle.master.specs.Drive.{codeCompleted, over};
-ghost use Rattle.bits.specs.Bit.{bitOf};
+ghost use Rattle.bits.specs.Bit.{bitOf, levelByte};
 ghost use Rattle.bits.specs.Slots.{levelsIn, countIn};
-ghost use Rattle.bus.specs.Bus.{eventOf, answerByte};
+ghost use Rattle.bus.specs.Bus.{eventOf};
 ghost use Rattle.bus.specs.Loops.{loneLevels};
 ghost use Rattle.bus.specs.Run.{statesOf};
 ghost use Rattle.discovery.specs.Search.{searchOf};
-ghost use Rattle.discovery.specs.Searched.{Searched};
+ghost use Rattle.discovery.specs.Searched.{Searched, eventsFor};
 ghost use Rattle.discovery.specs.Words.{Bytes, isReset, slotNext, resetsIn, slotsIn, passesIn};
-ghost use Rattle.search.specs.Refusal.{traceRoom, noSearchRoom, searchRefusal};
+ghost use Rattle.search.specs.Refusal.{noSearchRoom, searchRefusal};
 ghost use Rattle.search.specs.Found.{foundIn, SearchLeaves, searchedOf};
 ghost use Rattle.search.specs.Exchange.{hasEvent, eventIn, Ready, oneLevel, toldOne, oneCodes, bitMask, bitKnown, bitTold, bitTrace, beginsCommand, commandTrace, commandMaster, commandTold, toldBit, toldCommand, toldCode, bitsLeft, codeTrace, codeTold, toldOf, toldTrace, toldCodes};
 
@@ -81,7 +81,7 @@ fn wide(byte: u8) -> usize
 
 // The events of a search of n devices.
 fn trace_room(n: u8) -> usize
-    ensures { λ r. ⌜ r ≡ traceRoom n ⌝ }
+    ensures { λ r. ⌜ r ≡ eventsFor n ⌝ }
 {
     if n == 0 {
         return 1;
@@ -150,7 +150,7 @@ fn event_in(step: Step) -> u8
 
 // A level as a byte.
 fn answer_of(level: bool) -> u8
-    ensures { λ r. ⌜ r ≡ answerByte level ⌝ }
+    ensures { λ r. ⌜ r ≡ levelByte level ⌝ }
 {
     if level { 1 } else { 0 }
 }
@@ -164,8 +164,8 @@ fn next_step(
     event: u8,
     level: bool,
 ) -> Step
-    ensures { λ r. ⌜ (r ≡ stepOf (step .next) (answerByte level))
-        × (now (codes .exit) ≡ sets (now (codes .entry)) (codeBytes * step .next .passes) (codeCompleted (step .next .passes) (nextOf (step .next) (answerByte level))))
+    ensures { λ r. ⌜ (r ≡ stepOf (step .next) (levelByte level))
+        × (now (codes .exit) ≡ sets (now (codes .entry)) (codeBytes * step .next .passes) (codeCompleted (step .next .passes) (nextOf (step .next) (levelByte level))))
         × (now (trace .exit) ≡ set (now (trace .entry)) sent event) ⌝ }
 {
     bits::put_byte(trace, sent, event);

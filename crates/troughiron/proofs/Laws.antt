@@ -4,7 +4,7 @@ use mathlib.Core.Path.{_≡_, refl, sym, ap, subst, _∙_}
 use mathlib.Core.List.{List}
 use Rattle.search.specs.declared.Found.{Found}
 use Rattle.search.specs.Found.{SearchOutcome}
-use Rattle.troughiron.specs.Host.{Finds, counted, SeesSearch}
+use Rattle.troughiron.specs.Host.{OwnSearchLeaves, counted, HostSearchLeaves}
 
 counted-now : (number count before : ℕ) → number ≡ 0 → counted number count before ≡ count
 unfolding counted
@@ -15,12 +15,12 @@ unfolding counted
 counted-not zero count before h = absurd (h refl)
 counted-not (suc number) count before h = refl
 
-module _ (left : SearchOutcome) (passes resets slots : ℕ) (found : Found) (codes trace : List ℕ) (finds : Finds left found codes trace) where
+module _ (left : SearchOutcome) (passes resets slots : ℕ) (found : Found) (codes trace : List ℕ) (finds : OwnSearchLeaves left found codes trace) where
   same : left .found .number ≡ found .number
   same = ap (λ (f : Found). f .number) (sym (finds .found-is))
 
   -- not refused: the counts are written
-  pub sees-counts : found .number ≡ 0 → SeesSearch left passes resets slots (found .number) codes trace (found .passes) (found .resets) (found .slots)
+  pub sees-counts : found .number ≡ 0 → HostSearchLeaves left passes resets slots (found .number) codes trace (found .passes) (found .resets) (found .slots)
   sees-counts e = record {
     number-is = sym same;
     codes-are = finds .codes-are;
@@ -31,7 +31,7 @@ module _ (left : SearchOutcome) (passes resets slots : ℕ) (found : Found) (cod
   }
 
   -- refused: they are not
-  pub sees-none : (found .number ≡ 0 → ⊥) → SeesSearch left passes resets slots (found .number) codes trace passes resets slots
+  pub sees-none : (found .number ≡ 0 → ⊥) → HostSearchLeaves left passes resets slots (found .number) codes trace passes resets slots
   sees-none h = record {
     number-is = sym same;
     codes-are = finds .codes-are;

@@ -7,11 +7,10 @@ use lib.ListN.{replicate}
 use Rattle.device.specs.Device.{waitingState}
 use Rattle.bus.specs.Run.{RunOutcome, runOf}
 use Rattle.search.specs.declared.Found.{Found}
-use Rattle.search.specs.Found as Search
-use Rattle.search.specs.Found.{searchedOf}
+use Rattle.search.specs.Found.{SearchOutcome, searchedOf}
 
 -- what the host sees of a run is this: its number, the image and the answers
-pub record Sees (left : RunOutcome) (number : ℕ) (image answers : List ℕ) : Type 0 where
+pub record HostRunLeaves (left : RunOutcome) (number : ℕ) (image answers : List ℕ) : Type 0 where
   pub number-is : number ≡ left .number
   pub image-is : image ≡ left .image
   pub answers-are : answers ≡ left .answers
@@ -21,7 +20,7 @@ unfoldable pub hostRun : List ℕ → List ℕ → List ℕ → RunOutcome
 hostRun image trace answers = runOf image trace answers (replicate 64 waitingState)
 
 -- what is had of a search without its line states: what it gives back, the codes and the trace
-pub record Finds (left : Search.SearchOutcome) (found : Found) (codes trace : List ℕ) : Type 0 where
+pub record OwnSearchLeaves (left : SearchOutcome) (found : Found) (codes trace : List ℕ) : Type 0 where
   pub found-is : found ≡ left .found
   pub codes-are : codes ≡ left .codes
   pub trace-is : trace ≡ left .trace
@@ -32,7 +31,7 @@ counted zero count before = count
 counted (suc number) count before = before
 
 -- what the host sees of a search is this: its number, the codes, the trace, and the three counts, which were these before
-pub record SeesSearch (left : Search.SearchOutcome) (passes resets slots number : ℕ) (codes trace : List ℕ) (passes′ resets′ slots′ : ℕ) : Type 0 where
+pub record HostSearchLeaves (left : SearchOutcome) (passes resets slots number : ℕ) (codes trace : List ℕ) (passes′ resets′ slots′ : ℕ) : Type 0 where
   pub number-is : number ≡ left .found .number
   pub codes-are : codes ≡ left .codes
   pub trace-is : trace ≡ left .trace
@@ -41,5 +40,5 @@ pub record SeesSearch (left : Search.SearchOutcome) (passes resets slots number 
   pub slots-are : slots′ ≡ counted (left .found .number) (left .found .slots) slots
 
 -- the search with 64 line states, whatever these hold at the start
-unfoldable pub hostSearch : List ℕ → List ℕ → List ℕ → Search.SearchOutcome
+unfoldable pub hostSearch : List ℕ → List ℕ → List ℕ → SearchOutcome
 hostSearch image codes trace = searchedOf image codes trace (replicate 64 waitingState)

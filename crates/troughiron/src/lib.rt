@@ -6,7 +6,7 @@ ghost use mathlib.Core.Bool.{cond};
 ghost use Rattle.bits.specs.Crc.{registered};
 ghost use Rattle.discovery.specs.Search.{searchOf};
 ghost use Rattle.discovery.specs.Searched.{Searched};
-ghost use Rattle.troughiron.specs.Host.{Sees, hostRun, Finds, SeesSearch, hostSearch};
+ghost use Rattle.troughiron.specs.Host.{HostRunLeaves, hostRun, OwnSearchLeaves, HostSearchLeaves, hostSearch};
 
 // The number of a search that is not refused.
 const ACCEPTED: u32 = 0;
@@ -14,7 +14,7 @@ const ACCEPTED: u32 = 0;
 // The run, with 64 line states of its own: as many as an image has devices.
 #[no_mangle]
 pub extern "C" fn troughiron_run(image: &mut [u8], trace: &[u8], answers: &mut [u8]) -> u32
-    ensures { λ r. ⌜ Sees (hostRun (now (image .entry)) (now (trace .entry)) (now (answers .entry))) r (now (image .exit)) (now (answers .exit)) ⌝ }
+    ensures { λ r. ⌜ HostRunLeaves (hostRun (now (image .entry)) (now (trace .entry)) (now (answers .entry))) r (now (image .exit)) (now (answers .exit)) ⌝ }
 {
     let waiting = LineState::waiting();
     let mut lines = [waiting; 64];
@@ -23,7 +23,7 @@ pub extern "C" fn troughiron_run(image: &mut [u8], trace: &[u8], answers: &mut [
 
 // The search, with 64 line states of its own.
 fn search_own(image: &[u8], codes: &mut [u8], trace: &mut [u8]) -> Found
-    ensures { λ r. ⌜ Finds (hostSearch (now (image .entry)) (now (codes .entry)) (now (trace .entry))) r (now (codes .exit)) (now (trace .exit))
+    ensures { λ r. ⌜ OwnSearchLeaves (hostSearch (now (image .entry)) (now (codes .entry)) (now (trace .entry))) r (now (codes .exit)) (now (trace .exit))
         × (r .number ≡ 0 → Searched (now (image .entry)) (searchOf (now (image .entry)))) ⌝ }
 {
     let waiting = LineState::waiting();
@@ -41,7 +41,7 @@ pub extern "C" fn troughiron_search(
     resets: &mut u64,
     slots: &mut u64,
 ) -> u32
-    ensures { λ r. ⌜ SeesSearch (hostSearch (now (image .entry)) (now (codes .entry)) (now (trace .entry))) (now (passes .entry)) (now (resets .entry)) (now (slots .entry)) r (now (codes .exit)) (now (trace .exit)) (now (passes .exit)) (now (resets .exit)) (now (slots .exit))
+    ensures { λ r. ⌜ HostSearchLeaves (hostSearch (now (image .entry)) (now (codes .entry)) (now (trace .entry))) (now (passes .entry)) (now (resets .entry)) (now (slots .entry)) r (now (codes .exit)) (now (trace .exit)) (now (passes .exit)) (now (resets .exit)) (now (slots .exit))
         × (r ≡ 0 → Searched (now (image .entry)) (searchOf (now (image .entry)))) ⌝ }
 {
     let found = search_own(image, codes, trace);

@@ -7,7 +7,7 @@ use native.Mathlib.Omega.{arith}
 use lib.ListN.{length, drop, replicate}
 use lib.Dec.{lit<}
 use borrow.Author.Tests.{ne-eqb}
-use Rattle.bits.specs.Bit.{shiftIn}
+use Rattle.bits.specs.Bit.{shiftIn, levelByte}
 use Rattle.kind.specs.Kind.{bodySize}
 use Rattle.line.specs.declared.RomStage.the-variants.{Waiting}
 use Rattle.line.specs.Names.{atMemoryCommand}
@@ -16,12 +16,12 @@ use Rattle.image.specs.Refusal.{imageRefusal}
 use Rattle.image.proofs.Accepted.{accepted-known}
 use Rattle.rom.specs.Rom.{afterCommand, romCommand}
 use Rattle.device.specs.declared.LineState.{LineState}
-use Rattle.device.specs.Device.{stateOf, waitingState, resetState}
+use Rattle.device.specs.Device.{lineState, waitingState, resetState}
 use Rattle.bus.specs.declared.Event.the-variants.{Slot, Reset}
 use Rattle.bus.specs.declared.Event.{Event}
-use Rattle.bus.specs.Bus.{Device, BusStep, eventOf, presence, levelOf, nextDevice, busStepAt, busStep, Run, answerByte, withAnswer, runTrace}
+use Rattle.bus.specs.Bus.{Device, BusStep, eventOf, presence, levelOf, nextDevice, busStepAt, busStep, Run, withAnswer, runTrace}
 use Rattle.bus.specs.Refusal.{someByte, badTrace, badPulse}
-use Rattle.bus.specs.Run.{waitingDevices, headerOf, bodiesOf, statesOf, runOutcome, leftByRun, runAt, runOf}
+use Rattle.bus.specs.Run.{waitingDevices, tableOfContents, bodiesOf, statesOf, runOutcome, leftByRun, runAt, runOf}
 use Rattle.bus.proofs.Laws.{not-refused}
 use Rattle.bus.proofs.Shown.{Stand, waiting-stands, waiting-all, waiting-image, waiting-states}
 use Rattle.discovery.proofs.Devices.{inState, Sized, active, device, stands, all-active, reset-all, rom-unwritten, commanded, command-level, command-after}
@@ -72,25 +72,25 @@ module _ (ds : List Device) (fit : Sized ds) where
 
   -- a bit of the command: the line has the master's level, and every device takes it
   slot-step : (bits value : ℕ) (sent : Bool) → bits < 8
-      → busStep (Slot sent) (all (commanded bits value) ds) ≡ record { level = sent; devices = all (stateOf (afterCommand bits value sent)) ds }
+      → busStep (Slot sent) (all (commanded bits value) ds) ≡ record { level = sent; devices = all (lineState (afterCommand bits value sent)) ds }
   unfolding busStep busStepAt
   slot-step bits value sent h =
       let e = all-stands (commanded bits value) ds in
       let level : levelOf (Slot sent) (all (commanded bits value) ds) ≡ sent = subst (λ (es : List Device). levelOf (Slot sent) es ≡ sent) e (command-level bits value sent (map active ds) h fits) in
-      let after : map (nextDevice (Slot sent) sent) (all (commanded bits value) ds) ≡ all (stateOf (afterCommand bits value sent)) ds =
-      ap (map (nextDevice (Slot sent) sent)) (sym e) ∙ command-after bits value sent (map active ds) h fits ∙ all-stands (stateOf (afterCommand bits value sent)) ds in
+      let after : map (nextDevice (Slot sent) sent) (all (commanded bits value) ds) ≡ all (lineState (afterCommand bits value sent)) ds =
+      ap (map (nextDevice (Slot sent) sent)) (sym e) ∙ command-after bits value sent (map active ds) h fits ∙ all-stands (lineState (afterCommand bits value sent)) ds in
       ap (λ (l : Bool). busStepAt (Slot sent) l (all (commanded bits value) ds)) level ∙ ap (λ (es : List Device). record { level = sent; devices = es }) after
 
   slot-run : (bits value : ℕ) (sent : Bool) (byte : ℕ) (trace : List ℕ) → eventOf byte ≡ Slot sent → bits < 8
-      → runTrace (byte ∷ trace) (all (commanded bits value) ds) ≡ withAnswer sent (runTrace trace (all (stateOf (afterCommand bits value sent)) ds))
+      → runTrace (byte ∷ trace) (all (commanded bits value) ds) ≡ withAnswer sent (runTrace trace (all (lineState (afterCommand bits value sent)) ds))
   unfolding runTrace
   slot-run bits value sent byte trace e h =
       ap (λ (b : BusStep). withAnswer (b .level) (runTrace trace (b .devices)))
       (ap (λ (v : Event). busStep v (all (commanded bits value) ds)) e ∙ slot-step bits value sent h)
 
   -- the eight bits of CCh
-  command-run : runTrace (bitsFrom 0) (all resetState ds) ≡ record { answers = bitsFrom 0; devices = all (stateOf atMemoryCommand) ds }
-  unfolding eventOf afterCommand romCommand shiftIn withAnswer answerByte runTrace
+  command-run : runTrace (bitsFrom 0) (all resetState ds) ≡ record { answers = bitsFrom 0; devices = all (lineState atMemoryCommand) ds }
+  unfolding eventOf afterCommand romCommand shiftIn withAnswer levelByte runTrace
   command-run =
       slot-run 0 0x00 false 0 (bitsFrom 1) refl (lit< tt)
       ∙ ap (withAnswer false) (slot-run 1 0x00 false 0 (bitsFrom 2) refl (lit< tt)
@@ -114,20 +114,20 @@ module _ (ds : List Device) (fit : Sized ds) where
       ap (λ (es : List Device). withAnswer level (runTrace trace es)) after
 
   skip-run : runTrace skipRom (all waitingState ds)
-      ≡ record { answers = skipAnswers (answerByte (presence (all waitingState ds))); devices = all (stateOf atMemoryCommand) ds }
+      ≡ record { answers = skipAnswers (levelByte (presence (all waitingState ds))); devices = all (lineState atMemoryCommand) ds }
   unfolding withAnswer
   skip-run = reset-run (bitsFrom 0) ∙ ap (withAnswer (presence (all waitingState ds))) command-run
 
 -- presence by the count
-presence-is : (image : List ℕ) (s : LineState) (ds : List Device) → length ds ≡ countOf image → answerByte (presence (all s ds)) ≡ presenceOf image
-unfolding presence answerByte
+presence-is : (image : List ℕ) (s : LineState) (ds : List Device) → length ds ≡ countOf image → levelByte (presence (all s ds)) ≡ presenceOf image
+unfolding presence levelByte
 presence-is image s [] e = rw (sym e)
 presence-is image s (d ∷ ds) e = rw (ne-eqb (countOf image) 0 (λ (z : countOf image ≡ 0). omega arith))
 
 pub skip-rom : (image answers : List ℕ) (lines : List LineState) → imageRefusal image ≡ 0 → length skipRom ≤ length answers → countOf image ≤ length lines
     → runOf image skipRom answers lines
     ≡ runOutcome 0 image (skipAnswers (presenceOf image) ++ drop (length skipRom) answers)
-    (replicate (countOf image) (stateOf atMemoryCommand) ++ drop (countOf image) lines)
+    (replicate (countOf image) (lineState atMemoryCommand) ++ drop (countOf image) lines)
 unfolding runOf runAt leftByRun badTrace badPulse someByte
 skip-rom image answers lines accepted room lent =
     let known = accepted-known image accepted in
@@ -135,12 +135,12 @@ skip-rom image answers lines accepted room lent =
     let n = countOf image in
     let count = waiting-all image known in
     let admitted = not-refused image skipRom (length answers) (length lines) (record { image-accepted = accepted; trace-good = refl; pulses-good = refl; answers-room = room; lines-room = lent }) in
-    let begun : runTrace skipRom ds ≡ record { answers = skipAnswers (answerByte (presence (all waitingState ds))); devices = all (stateOf atMemoryCommand) ds } =
+    let begun : runTrace skipRom ds ≡ record { answers = skipAnswers (levelByte (presence (all waitingState ds))); devices = all (lineState atMemoryCommand) ds } =
     ap (runTrace skipRom) (all-same waitingState n ds (waiting-states image known)) ∙ skip-run ds (sized image 0 ds (waiting-stands image known)) in
     ap (λ (m : ℕ). runAt m image skipRom answers lines) admitted
     ∙ ap (λ (r : Run). leftByRun r image skipRom answers lines) begun
-    ∙ ap (λ (p : ℕ). runOutcome 0 (headerOf image ++ bodiesOf (all (stateOf atMemoryCommand) ds)) (skipAnswers p ++ drop (length skipRom) answers) (statesOf (all (stateOf atMemoryCommand) ds) ++ drop n lines)) (presence-is image waitingState ds count)
-    ∙ ap (λ (l : List ℕ). runOutcome 0 l (skipAnswers (presenceOf image) ++ drop (length skipRom) answers) (statesOf (all (stateOf atMemoryCommand) ds) ++ drop n lines))
-    (ap (λ (l : List ℕ). headerOf image ++ l) (all-bodies (stateOf atMemoryCommand) ds) ∙ waiting-image image known)
+    ∙ ap (λ (p : ℕ). runOutcome 0 (tableOfContents image ++ bodiesOf (all (lineState atMemoryCommand) ds)) (skipAnswers p ++ drop (length skipRom) answers) (statesOf (all (lineState atMemoryCommand) ds) ++ drop n lines)) (presence-is image waitingState ds count)
+    ∙ ap (λ (l : List ℕ). runOutcome 0 l (skipAnswers (presenceOf image) ++ drop (length skipRom) answers) (statesOf (all (lineState atMemoryCommand) ds) ++ drop n lines))
+    (ap (λ (l : List ℕ). tableOfContents image ++ l) (all-bodies (lineState atMemoryCommand) ds) ∙ waiting-image image known)
     ∙ ap (λ (l : List LineState). runOutcome 0 image (skipAnswers (presenceOf image) ++ drop (length skipRom) answers) (l ++ drop n lines))
-    (all-states (stateOf atMemoryCommand) ds ∙ ap (λ (k : ℕ). replicate k (stateOf atMemoryCommand)) count)
+    (all-states (lineState atMemoryCommand) ds ∙ ap (λ (k : ℕ). replicate k (lineState atMemoryCommand)) count)

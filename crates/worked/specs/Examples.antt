@@ -9,7 +9,7 @@ use Rattle.line.specs.Names.{atMemoryCommand}
 use Rattle.image.specs.Image.{countOf}
 use Rattle.image.specs.Refusal.{imageRefusal}
 use Rattle.device.specs.declared.LineState.{LineState}
-use Rattle.device.specs.Device.{stateOf, waitingState}
+use Rattle.device.specs.Device.{lineState, waitingState}
 use Rattle.bus.specs.Run.{runOutcome, runOf}
 use Rattle.worked.specs.Row.{Every}
 use Rattle.worked.specs.Table.{skipRom, skipAnswers, table}
@@ -24,7 +24,7 @@ pub record Examples : Type 0 where
   pub skip-rom : (image answers : List ℕ) (lines : List LineState) → imageRefusal image ≡ 0 → length skipRom ≤ length answers → countOf image ≤ length lines
       → runOf image skipRom answers lines
       ≡ runOutcome 0 image (skipAnswers (presenceOf image) ++ drop (length skipRom) answers)
-      (replicate (countOf image) (stateOf atMemoryCommand) ++ drop (countOf image) lines)
+      (replicate (countOf image) (lineState atMemoryCommand) ++ drop (countOf image) lines)
   -- 2, for every accepted image
   pub empty-trace : (image answers : List ℕ) (lines : List LineState) → imageRefusal image ≡ 0 → countOf image ≤ length lines
       → runOf image [] answers lines ≡ runOutcome 0 image answers (replicate (countOf image) waitingState ++ drop (countOf image) lines)

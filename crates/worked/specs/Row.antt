@@ -8,7 +8,7 @@ use Rattle.line.specs.Names.{atRomCommand, atMemoryCommand}
 use Rattle.image.specs.Image.{countOf}
 use Rattle.image.specs.Refusal.{imageRefusal}
 use Rattle.device.specs.declared.LineState.{LineState}
-use Rattle.device.specs.Device.{stateOf}
+use Rattle.device.specs.Device.{lineState}
 use Rattle.bus.specs.Run.{runOutcome, runOf}
 use Rattle.master.specs.Master.{end, says}
 use Rattle.discovery.specs.Search.{searchOf}
@@ -31,12 +31,12 @@ abbrev pub lentAnswers : List ℕ → List ℕ
 lentAnswers sent = replicate (length sent) 7
 
 abbrev pub lentLines : List ℕ → List LineState
-lentLines image = replicate (countOf image) (stateOf atMemoryCommand)
+lentLines image = replicate (countOf image) (lineState atMemoryCommand)
 
 -- the run is not refused, and it leaves this image, these answers, and every line state in this stage
 abbrev pub Runs : List ℕ → List ℕ → List ℕ → List ℕ → Stage → Type 0
 Runs image sent seen after stage =
-    runOf image sent (lentAnswers sent) (lentLines image) ≡ runOutcome 0 after seen (replicate (countOf image) (stateOf stage))
+    runOf image sent (lentAnswers sent) (lentLines image) ≡ runOutcome 0 after seen (replicate (countOf image) (lineState stage))
 
 -- ---- a search
 

@@ -1,5 +1,5 @@
 use mathlib.Core.Path.{sym, _∙_}
-use Rattle.bus.specs.Bus.{deviceOf, nextState, nextBody, nextDevice}
+use Rattle.bus.specs.Bus.{deviceWith, nextState, nextBody, nextDevice}
 use Rattle.bus.specs.Loops.{afterSlots, afterStretch}
 use borrow.Author.Needs.{needs}
 use Rattle.bus.proofs.device_next.Statement.{statement}
@@ -40,7 +40,7 @@ unfolding afterStretch afterSlots
 returns c =
     let a = c .before .before .before .before .before .before .before .before .before .before .args in
     rw (sym (c .before .before .before .before .before .before .before .before .event-of .ensures) ∙ c .before .before .before .before .before .before .enum-told .given .1, ← c .before .before .before .before .levels-in .ensures, ← c .before .before .before .count-in .ensures)
-    (λ i. deviceOf (a .kind) (c .before .before .slots .ensures .1 i) (c .before .before .slots .ensures .0 i))
+    (λ i. deviceWith (a .kind) (c .before .before .slots .ensures .1 i) (c .before .before .slots .ensures .0 i))
 
 same-length-2 : tie.Need-same-length-2
 same-length-2 c = search needs

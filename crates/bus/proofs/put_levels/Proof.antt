@@ -1,8 +1,7 @@
 use mathlib.Core.Bool.{Bool}
 use mathlib.Core.List.{List}
 use package.mir.Val.{boolByte}
-use Rattle.bits.specs.Bit.{bitOf}
-use Rattle.bus.specs.Bus.{answerByte}
+use Rattle.bits.specs.Bit.{bitOf, levelByte}
 use Rattle.bus.proofs.Laws.{level-byte}
 use Rattle.bits.specs.Slots.{countIn}
 use Rattle.bus.specs.Loops.{putLevels}
@@ -23,7 +22,7 @@ again : (answers now : List ℕ) (k levels j : ℕ) (level : Bool) → now ≡ p
 unfolding putLevels
 again answers now k levels j level e f =
     ap (λ (l : List ℕ). set l (k + j) (boolByte level)) e
-    ∙ ap (set (putLevels answers k levels j) (k + j)) (level-byte level ∙ ap answerByte f)
+    ∙ ap (set (putLevels answers k levels j) (k + j)) (level-byte level ∙ ap levelByte f)
     ∙ ap (putLevels answers k levels) (sym (add-one j))
 
 abbrev Inv-loop : tie.InvT-loop

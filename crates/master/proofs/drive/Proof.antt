@@ -1,5 +1,5 @@
 use borrow.Author.Tests.{lt-ltb, le-ltb}
-use Rattle.master.specs.Drive.{roomRefused}
+use Rattle.master.specs.Drive.{noDriveRoom}
 use Rattle.master.proofs.Feeding.{drive-refused, drive-fed}
 use borrow.Author.Needs.{needs}
 use Rattle.master.proofs.drive.Statement.{statement}
@@ -12,7 +12,7 @@ refused-requires : tie.Need-refused-requires
 refused-requires c κs = search needs
 
 returns : tie.Need-returns
-unfolding roomRefused
+unfolding noDriveRoom
 returns c =
     let short = rw (c .before .before .trace-room .ensures) at (c .before .if1 .taken) in
     drive-refused _ _ _ _ (c .refused .ensures) (rw (lt-ltb _ _ short))
@@ -24,7 +24,7 @@ refused-requires-2 : tie.Need-refused-requires-2
 refused-requires-2 c κs = search needs
 
 returns-2 : tie.Need-returns-2
-unfolding roomRefused
+unfolding noDriveRoom
 returns-2 c =
     let room = rw (c .before .before .before .before .trace-room .ensures) at (c .before .before .before .if1 .left) in
     let short = rw (c .before .before .code-room .ensures) at (c .before .if2 .taken) in
@@ -40,7 +40,7 @@ same-length-2 : tie.Need-same-length-2
 same-length-2 c = search needs
 
 returns-3 : tie.Need-returns-3
-unfolding roomRefused
+unfolding noDriveRoom
 returns-3 c =
     let room-t = rw (c .before .before .before .before .before .before .before .before .before .before .trace-room .ensures) at (c .before .before .before .before .before .before .before .before .before .if1 .left) in
     let room-c = rw (c .before .before .before .before .before .before .before .before .code-room .ensures) at (c .before .before .before .before .before .before .before .if2 .left) in

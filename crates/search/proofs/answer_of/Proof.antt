@@ -1,13 +1,13 @@
-use Rattle.bus.specs.Bus.{answerByte}
+use Rattle.bits.specs.Bit.{levelByte}
 use Rattle.search.proofs.answer_of.Statement.{statement}
 use Rattle.search.proofs.answer_of.Tie as tie
 
 returns : tie.Need-returns
-unfolding answerByte
+unfolding levelByte
 returns c = simp (c .if1 .taken)
 
 returns-2 : tie.Need-returns-2
-unfolding answerByte
+unfolding levelByte
 returns-2 c = simp (c .if1 .left)
 
 pub answer-of-spec : {M : Type 1} → statement M

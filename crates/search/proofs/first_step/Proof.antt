@@ -1,4 +1,4 @@
-use Rattle.device.specs.Device.{stateAfter}
+use Rattle.device.specs.Device.{stateAfterSlot}
 use Rattle.master.specs.Master.{fresh}
 use borrow.Author.Needs.{needs}
 use Rattle.search.proofs.first_step.Statement.{statement}
@@ -11,7 +11,7 @@ step-requires : tie.Need-step-requires
 step-requires c κs = search needs
 
 returns : tie.Need-returns
-unfolding stateAfter fresh
+unfolding stateAfterSlot fresh
 returns c = simp (c .step .ensures .0, c .before .fresh .ensures)
 
 pub first-step-spec : {M : Type 1} → statement M

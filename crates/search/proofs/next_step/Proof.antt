@@ -1,5 +1,5 @@
-use Rattle.bus.specs.Bus.{answerByte}
-use Rattle.device.specs.Device.{stateAfter}
+use Rattle.bits.specs.Bit.{levelByte}
+use Rattle.device.specs.Device.{stateAfterSlot}
 use Rattle.master.specs.Drive.{codeCompleted, sent}
 use mathlib.Core.Path.{refl}
 use borrow.Author.Needs.{needs}
@@ -25,7 +25,7 @@ same-length-2 : tie.Need-same-length-2
 same-length-2 c = search needs
 
 returns : tie.Need-returns
-unfolding answerByte stateAfter sent codeCompleted
+unfolding levelByte stateAfterSlot sent codeCompleted
 returns c = simp (c .before .before .keep-code .ensures, c .before .before .before .before .before .step .ensures .0, c .before .before .before .before .before .before .answer-of .ensures, c .before .before .before .before .before .before .before .before .before .before .put-byte .ensures) (refl, refl, refl)
 
 pub next-step-spec : {M : Type 1} → statement M

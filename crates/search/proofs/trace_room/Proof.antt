@@ -1,12 +1,18 @@
-use Rattle.search.specs.Refusal.{traceRoom}
-use borrow.Author.Tests.{eq-eqb, ne-eqb}
+use Prim.Native.Nat.{ℕ, zero, suc, _*_}
+use mathlib.Core.Path.{_≡_, refl, ap}
 use borrow.Author.Needs.{needs}
+use Rattle.master.specs.Drive.{passEvents}
+use Rattle.discovery.specs.Searched.{eventsFor}
 use Rattle.search.proofs.trace_room.Statement.{statement}
 use Rattle.search.proofs.trace_room.Tie as tie
 
+-- with a device or more
+some-for : (n : ℕ) → (n ≡ 0 → ⊥) → passEvents * n ≡ eventsFor n
+some-for zero h = absurd (h refl)
+some-for (suc n) h = refl
+
 returns : tie.Need-returns
-unfolding traceRoom
-returns c = simp (eq-eqb _ _ (c .if1 .taken))
+returns c = simp (c .if1 .taken)
 
 wide-requires : tie.Need-wide-requires
 wide-requires c κs = search needs
@@ -15,8 +21,7 @@ mul-result : tie.Need-mul-result
 mul-result c = search needs
 
 returns-2 : tie.Need-returns-2
-unfolding traceRoom
-returns-2 c = simp (c .wide .ensures, ne-eqb _ _ (c .before .if1 .left))
+returns-2 c = simp (c .wide .ensures, some-for _ (c .before .if1 .left))
 
 pub trace-room-spec : {M : Type 1} → statement M
 trace-room-spec = tie.close (tie.spec returns wide-requires mul-result returns-2)

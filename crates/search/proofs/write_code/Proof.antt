@@ -5,8 +5,7 @@ use native.Mathlib.Omega.{arith}
 use native.Mathlib.Numerals.{add-one}
 use lib.ListN.{length, set, length-set}
 use borrow.Author.Needs.{needs}
-use Rattle.bits.specs.Bit.{bitAt}
-use Rattle.bus.specs.Bus.{answerByte}
+use Rattle.bits.specs.Bit.{bitAt, levelByte}
 use Rattle.search.specs.Exchange.{bitTrace, codeTrace}
 use Rattle.search.proofs.write_code.Statement.{statement}
 use Rattle.search.proofs.write_code.Tie as tie
@@ -74,7 +73,7 @@ loop-again c =
       omega arith,
       l .inv .1,
       simp (c .before .before .write-bit .ensures, c .before .before .before .answer-of .ensures, c .before .before .before .before .wide3 .ensures, c .before .before .before .before .before .before .bit-at .ensures, c .before .before .before .before .before .before .before .wide2 .ensures, c .before .before .before .before .before .before .before .before .wide .ensures, add-one)
-          (ap (λ (t : List ℕ). bitTrace t (a .sent + 3 * l .j) (answerByte (bitAt (a .t3) (a .at + l .j)))) (l .inv .2)),
+          (ap (λ (t : List ℕ). bitTrace t (a .sent + 3 * l .j) (levelByte (bitAt (a .t3) (a .at + l .j)))) (l .inv .2)),
     )
 
 same-length : tie.Need-same-length Inv-loop μ-loop

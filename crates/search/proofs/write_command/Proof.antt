@@ -1,5 +1,4 @@
-use Rattle.bits.specs.Bit.{bitOf}
-use Rattle.bus.specs.Bus.{answerByte}
+use Rattle.bits.specs.Bit.{bitOf, levelByte}
 use borrow.Author.Needs.{needs}
 use mathlib.Core.Path.{refl}
 use native.Mathlib.Omega.{arith}
@@ -55,7 +54,7 @@ loop-again c =
     let a = c .before .before .before .before .before .before .before .before .before .before .args in (
       omega arith,
       simp (c .before .before .put-byte .ensures, c .before .before .before .answer-of .ensures, c .before .before .before .before .bit-of .ensures, c .before .before .before .before .before .wide .ensures, add-one)
-          (ap (λ (t : List ℕ). set t (a .sent + l .j) (answerByte (bitOf 0xF0 (l .j)))) (l .inv .1)),
+          (ap (λ (t : List ℕ). set t (a .sent + l .j) (levelByte (bitOf 0xF0 (l .j)))) (l .inv .1)),
     )
 
 same-length : tie.Need-same-length Inv-loop μ-loop

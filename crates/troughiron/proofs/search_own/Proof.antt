@@ -58,7 +58,7 @@ use Rattle.search.specs.declared.Found.{Found}
 use Rattle.search.specs.Found.{SearchLeaves, searchedOf}
 use Rattle.search.proofs.Found as K
 use Rattle.search.proofs.Found.Laws as K′
-use Rattle.troughiron.specs.Host.{Finds, hostSearch}
+use Rattle.troughiron.specs.Host.{OwnSearchLeaves, hostSearch}
 use Rattle.device.proofs.LineState.waiting as waiting
 use Rattle.device.proofs.LineState.waiting.Symbol as waiting-def
 use Rattle.device.proofs.LineState.waiting.Symbol.{name as #device·waiting}
@@ -138,7 +138,7 @@ module _ {M : Type 1} (𝓤 : URA M) (H : Heap 𝓤) (A : Atoms 𝓤) (W : Given
   abbrev Image : Fml
   Image = ShrSlice (named 0) κ u8 .own x (s ∷ [])
 
-  exits : (e : Found) (w : Val) (cs′ tr′ : List ℕ) → Finds (hostSearch im codes trace) e cs′ tr′ → (e .number ≡ 0 → Searched im (searchOf im)) → length cs′ ≡ length codes → length tr′ ≡ length trace
+  exits : (e : Found) (w : Val) (cs′ tr′ : List ℕ) → OwnSearchLeaves (hostSearch im codes trace) e cs′ tr′ → (e .number ≡ 0 → Searched im (searchOf im)) → length cs′ ≡ length codes → length tr′ ≡ length trace
       → ent 𝓤 (⋆ 𝓤 H A (‵ Image ∷ ‵ (flft κ q) ∷ ‵ (finally u8 γ₁ cs′) ∷ ‵ (flft κ₁ q₁) ∷ ‵ (finally u8 γ₂ tr′) ∷ ‵ (flft κ₂ q₂) ∷ ‵ (K.the-row .own e (w ∷ [])) ∷ [])) (Post w)
   exits e w cs′ tr′ said ok len₁ len₂ =
       qed W (‵ Image ∷ ‵ (flft κ q) ∷ ‵ (finally u8 γ₁ cs′) ∷ ‵ (flft κ₁ q₁) ∷ ‵ (finally u8 γ₂ tr′) ∷ ‵ (flft κ₂ q₂) ∷ ‵ (K.the-row .own e (w ∷ [])) ∷ []) ∵

@@ -54,7 +54,7 @@ use Rattle.device.proofs.LineState as T
 use Rattle.device.proofs.LineState.Laws as T′
 use Rattle.bus.specs.Run.{RunLeaves, runOf}
 use Rattle.bus.proofs.Lines.{R, valsR, tellsR, copyR, typed}
-use Rattle.troughiron.specs.Host.{Sees, hostRun}
+use Rattle.troughiron.specs.Host.{HostRunLeaves, hostRun}
 use Rattle.device.proofs.LineState.waiting as waiting
 use Rattle.device.proofs.LineState.waiting.Symbol as waiting-def
 use Rattle.device.proofs.LineState.waiting.Symbol.{name as #device·waiting}
@@ -134,7 +134,7 @@ module _ {M : Type 1} (𝓤 : URA M) (H : Heap 𝓤) (A : Atoms 𝓤) (W : Given
   abbrev Trace : Fml
   Trace = ShrSlice (named 1) κ₁ u8 .own x₁ (s₁ ∷ [])
 
-  exits : (e : ℕ) (w : Val) (im′ ans′ : List ℕ) → Sees (hostRun im tr ans) e im′ ans′ → length im′ ≡ length im → length ans′ ≡ length ans
+  exits : (e : ℕ) (w : Val) (im′ ans′ : List ℕ) → HostRunLeaves (hostRun im tr ans) e im′ ans′ → length im′ ≡ length im → length ans′ ≡ length ans
       → ent 𝓤 (⋆ 𝓤 H A (‵ (finally u8 γ im′) ∷ ‵ (flft κ q) ∷ ‵ Trace ∷ ‵ (flft κ₁ q₁) ∷ ‵ (finally u8 γ₂ ans′) ∷ ‵ (flft κ₂ q₂) ∷ ‵ (u32 .own e (w ∷ [])) ∷ [])) (Post w)
   exits e w im′ ans′ said len len₂ =
       qed W (‵ (finally u8 γ im′) ∷ ‵ (flft κ q) ∷ ‵ Trace ∷ ‵ (flft κ₁ q₁) ∷ ‵ (finally u8 γ₂ ans′) ∷ ‵ (flft κ₂ q₂) ∷ ‵ (u32 .own e (w ∷ [])) ∷ []) ∵

@@ -1,4 +1,4 @@
-use Rattle.device.specs.Device.{programOf, pulseOf}
+use Rattle.device.specs.Device.{bodyAfterPulse, stateAfterPulse}
 use mathlib.Core.Path.{refl}
 use borrow.Author.Needs.{needs}
 use Rattle.device.proofs.LineState.pulse.Statement.{statement}
@@ -17,7 +17,7 @@ same-length : tie.Need-same-length
 same-length c = search needs
 
 returns : tie.Need-returns
-unfolding pulseOf programOf
+unfolding stateAfterPulse bodyAfterPulse
 returns c = simp (c .stage-pulse .ensures, c .before .before .before .stage-program .ensures, c .before .before .before .before .before .taken .ensures) (refl, refl)
 
 pub pulse-spec : {M : Type 1} → statement M

@@ -1,4 +1,4 @@
-use Rattle.device.specs.Device.{pulseOf}
+use Rattle.device.specs.Device.{stateAfterPulse}
 use borrow.Author.Needs.{needs}
 use Rattle.device.proofs.LineState.pulsed.Statement.{statement}
 use Rattle.device.proofs.LineState.pulsed.Tie as tie
@@ -10,7 +10,7 @@ stage-pulse-requires : tie.Need-stage-pulse-requires
 stage-pulse-requires c κs = search needs
 
 returns : tie.Need-returns
-unfolding pulseOf
+unfolding stateAfterPulse
 returns c = simp (c .stage-pulse .ensures, c .before .taken .ensures)
 
 pub pulsed-spec : {M : Type 1} → statement M

@@ -1,4 +1,4 @@
-use Rattle.device.specs.Device.{resetBody}
+use Rattle.device.specs.Device.{bodyAfterReset}
 use mathlib.Core.Path.{refl}
 use borrow.Author.Needs.{needs}
 use Rattle.device.proofs.LineState.reset.Statement.{statement}
@@ -17,7 +17,7 @@ same-length : tie.Need-same-length
 same-length c = search needs
 
 returns : tie.Need-returns
-unfolding resetBody
+unfolding bodyAfterReset
 returns c = simp (c .at-reset .ensures, c .before .before .before .stage-reset .ensures, c .before .before .before .before .before .taken .ensures) (refl, refl)
 
 pub reset-spec : {M : Type 1} → statement M

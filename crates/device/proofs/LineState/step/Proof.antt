@@ -1,4 +1,4 @@
-use Rattle.device.specs.Device.{stateAfter}
+use Rattle.device.specs.Device.{stateAfterSlot}
 use borrow.Author.Needs.{needs}
 use Rattle.device.proofs.LineState.step.Statement.{statement}
 use Rattle.device.proofs.LineState.step.Tie as tie
@@ -10,7 +10,7 @@ stage-step-requires : tie.Need-stage-step-requires
 stage-step-requires c κs = search needs
 
 returns : tie.Need-returns
-unfolding stateAfter
+unfolding stateAfterSlot
 returns c = simp (c .stage-step .ensures, c .before .taken .ensures)
 
 pub step-spec : {M : Type 1} → statement M

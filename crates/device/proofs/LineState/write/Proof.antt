@@ -1,4 +1,4 @@
-use Rattle.device.specs.Device.{writeOf}
+use Rattle.device.specs.Device.{bodyAfterSlot}
 use borrow.Author.Needs.{needs}
 use Rattle.device.proofs.LineState.write.Statement.{statement}
 use Rattle.device.proofs.LineState.write.Tie as tie
@@ -13,7 +13,7 @@ same-length : tie.Need-same-length
 same-length c = search needs
 
 returns : tie.Need-returns
-unfolding writeOf
+unfolding bodyAfterSlot
 returns c = simp (c .before .before .stage-write .ensures, c .before .before .before .before .taken .ensures)
 
 pub write-spec : {M : Type 1} → statement M

@@ -1,4 +1,4 @@
-use Rattle.master.specs.Master.{after, stageAfter, withStage}
+use Rattle.master.specs.Master.{afterLevel, stepByStage, withStage}
 use borrow.Author.Tests.{not-false, not-true}
 use mathlib.Core.Path.{_∙_, sym}
 use mathlib.Core.Path.{sym, ap, _∙_}
@@ -16,7 +16,7 @@ with-stage-requires : tie.Need-with-stage-requires
 with-stage-requires c κs = search needs
 
 returns : tie.Need-returns
-unfolding after
+unfolding afterLevel
 returns c = simp (c .with-stage .ensures, sym (c .before .before .in-range .ensures) ∙ not-true _ (c .before .if1 .taken))
 
 enum-told : tie.Need-enum-told
@@ -62,31 +62,31 @@ enum-told-3 : tie.Need-enum-told-3
 enum-told-3 c = search needs
 
 returns-2 : tie.Need-returns-2
-unfolding stageAfter
+unfolding stepByStage
 returns-2 c = c .with-stage2 .ensures ∙ ap (λ (m : Master). withStage m Reset) (c .before .fresh .ensures) ∙ sym (goes-by-stage _ _ _ (c .before .before .enum-told .given .1) (sym (c .before .before .before .before .before .in-range .ensures) ∙ not-false _ (c .before .before .before .before .if1 .left)))
 
 returns-3 : tie.Need-returns-3
-unfolding stageAfter
+unfolding stepByStage
 returns-3 c = c .after-reset .ensures ∙ sym (goes-by-stage _ _ _ (c .before .enum-told2 .given .1) (sym (c .before .before .before .before .in-range .ensures) ∙ not-false _ (c .before .before .before .if1 .left)))
 
 returns-4 : tie.Need-returns-4
-unfolding stageAfter
+unfolding stepByStage
 returns-4 c = c .after-command .ensures ∙ sym (goes-by-stage _ _ _ (c .before .before .stage .given .1) (sym (c .before .before .before .before .before .in-range .ensures) ∙ not-false _ (c .before .before .before .before .if1 .left)))
 
 returns-5 : tie.Need-returns-5
-unfolding stageAfter
+unfolding stepByStage
 returns-5 c = c .with-stage3 .ensures ∙ sym (goes-by-stage _ _ _ (c .before .before .stage2 .given .1) (sym (c .before .before .before .before .before .in-range .ensures) ∙ not-false _ (c .before .before .before .before .if1 .left)))
 
 returns-6 : tie.Need-returns-6
-unfolding stageAfter
+unfolding stepByStage
 returns-6 c = c .after-reads .ensures ∙ sym (goes-by-stage _ _ _ (c .before .before .stage3 .given .1) (sym (c .before .before .before .before .before .in-range .ensures) ∙ not-false _ (c .before .before .before .before .if1 .left)))
 
 returns-7 : tie.Need-returns-7
-unfolding stageAfter
+unfolding stepByStage
 returns-7 c = c .after-direction .ensures ∙ sym (goes-by-stage _ _ _ (c .before .before .stage4 .given .1) (sym (c .before .before .before .before .before .in-range .ensures) ∙ not-false _ (c .before .before .before .before .if1 .left)))
 
 returns-8 : tie.Need-returns-8
-unfolding stageAfter
+unfolding stepByStage
 returns-8 c = sym (goes-by-stage _ _ _ (c .enum-told3 .given .1) (sym (c .before .before .before .in-range .ensures) ∙ not-false _ (c .before .before .if1 .left)))
 
 pub after-spec : {M : Type 1} → statement M

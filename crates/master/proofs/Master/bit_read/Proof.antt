@@ -1,4 +1,4 @@
-use Rattle.master.specs.Master.{answerOf, stageInRange, inRange, afterReads, atDiscrepancy, openAfter, sendDirection, withStage, stageAfter, after}
+use Rattle.master.specs.Master.{answerOf, stageInRange, inRange, afterReads, atDiscrepancy, openAfter, sendDirection, withStage, stepByStage, afterLevel}
 use mathlib.Core.Path.{_∙_, sym}
 use borrow.Author.Needs.{needs}
 use Rattle.master.proofs.Master.bit_read.Statement.{statement}
@@ -8,7 +8,7 @@ with-stage-requires : tie.Need-with-stage-requires
 with-stage-requires c κs = search needs
 
 returns : tie.Need-returns
-unfolding afterReads withStage answerOf after inRange stageInRange stageAfter
+unfolding afterReads withStage answerOf afterLevel inRange stageInRange stepByStage
 returns c = simp (c .with-stage .ensures, c .before .if2 .taken, c .before .before .if1 .taken)
 
 send-bit-requires : tie.Need-send-bit-requires
