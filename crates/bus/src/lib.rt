@@ -144,8 +144,8 @@ fn master_level(byte: u8) -> bool
     }
 }
 
-// A stretch of a trace is some slots, with their levels, or one reset or pulse, as a word of slots (see `bits::slots_word`).
-fn stretch_length(stretch: u64) -> usize
+// How many events a stretch has. It is some slots, with their levels, or one reset or pulse, as a word of slots (see `bits::slots_word`).
+pub fn stretch_length(stretch: u64) -> usize
     ensures { λ r. ⌜ r ≡ countIn stretch ⌝ }
 {
     bits::count_in(stretch) as usize

@@ -65,25 +65,25 @@ pub struct Master {
 }
 
 // The events that a master sends besides the slots of its bits.
-const RESET: u8 = 2;
+pub const RESET: u8 = 2;
 
-const READ_SLOT: u8 = 1;
+pub const READ_SLOT: u8 = 1;
 
 // The search command, and its bits.
-const SEARCH_ROM: u8 = 0xF0;
+pub const SEARCH_ROM: u8 = 0xF0;
 
-const COMMAND_BITS: u8 = 8;
+pub const COMMAND_BITS: u8 = 8;
 
 // The bits and bytes of a code.
-const CODE_BITS: u8 = 64;
+pub const CODE_BITS: u8 = 64;
 
-const CODE_BYTES: usize = 8;
+pub const CODE_BYTES: usize = 8;
 
 // The passes that a search may take.
-const MOST_PASSES: u8 = 64;
+pub const MOST_PASSES: u8 = 64;
 
 // The events of a pass, and of a whole search.
-const PASS_EVENTS: usize = 201;
+pub const PASS_EVENTS: usize = 201;
 
 const MOST_EVENTS: usize = 64 * PASS_EVENTS;
 

@@ -176,56 +176,76 @@ on-alone at i p j [] low h = h
 on-alone at i p j (s ∷ states) low (inl (here, is, rest)) = inl (here, ap (onState j) is ∙ on-searching at j low, all-wait-always j states rest)
 on-alone at i p j (s ∷ states) low (inr (waits, rest)) = inr (waits-always j s waits, on-alone at i (suc p) j states low rest)
 
+-- ---- line states by device
+
+-- f of each, from device p on
+abbrev eachOf : (ℕ → LineState → LineState) → ℕ → List LineState → List LineState
+eachOf f p [] = []
+eachOf f p (s ∷ states) = f p s ∷ eachOf f (suc p) states
+
+each-map : (h : LineState → LineState) (p : ℕ) (states : List LineState) → map h states ≡ eachOf (λ (q : ℕ) (s : LineState). h s) p states
+each-map h p [] = refl
+each-map h p (s ∷ states) = ap (λ (l : List LineState). h s ∷ l) (each-map h (suc p) states)
+
+each-maps : (h k : LineState → LineState) (p : ℕ) (states : List LineState) → map h (map k states) ≡ eachOf (λ (q : ℕ) (s : LineState). h (k s)) p states
+each-maps h k p [] = refl
+each-maps h k p (s ∷ states) = ap (λ (l : List LineState). h (k s) ∷ l) (each-maps h k (suc p) states)
+
+each-device : (image : List ℕ) (f : Device → LineState) (p : ℕ) (states : List LineState) → map f (devicesIn image p states) ≡ eachOf (λ (q : ℕ) (s : LineState). f (deviceIn image q s)) p states
+unfolding devicesIn
+each-device image f p [] = refl
+each-device image f p (s ∷ states) = ap (λ (l : List LineState). f (deviceIn image p s) ∷ l) (each-device image f (suc p) states)
+
+-- two are the same where they are for devices that wait, and for the one that does not
+module _ (f g : ℕ → LineState → LineState) (waiting-same : (p : ℕ) (s : LineState) → waitsIn (s .stage) ≡ true → f p s ≡ g p s) where
+  same-waits : (p : ℕ) (states : List LineState) → Waits states → eachOf f p states ≡ eachOf g p states
+  same-waits p [] h = refl
+  same-waits p (s ∷ states) h =
+      let one = waiting-same p s (h .0) in
+      let rest = same-waits (suc p) states (h .1) in
+      λ k. one k ∷ rest k
+
+  same-alone : (at i p : ℕ) (states : List LineState) → f i (searching at Bit) ≡ g i (searching at Bit) → Alone at i p states → eachOf f p states ≡ eachOf g p states
+  same-alone at i p [] same h = refl
+  same-alone at i p (s ∷ states) same (inl (here, is, rest)) =
+      let one : f p s ≡ g p s = ap (f p) is ∙ ap (λ (q : ℕ). f q (searching at Bit)) here ∙ same ∙ sym (ap (λ (q : ℕ). g q (searching at Bit)) here) ∙ sym (ap (g p) is) in
+      let more = same-waits (suc p) states rest in
+      λ k. one k ∷ more k
+  same-alone at i p (s ∷ states) same (inr (waits, rest)) =
+      let one = waiting-same p s waits in
+      let more = same-alone at i (suc p) states same rest in
+      λ k. one k ∷ more k
+
 -- one bit more
 waits-more : (j : ℕ) (s : LineState) → waitsIn (s .stage) ≡ true → onState 1 (onState j s) ≡ onState (suc j) s
 waits-more j s e = on-waiting 1 (onState j s) (waits-always j s e) ∙ sym (on-waiting (suc j) s e)
 
-all-wait-more : (j : ℕ) (states : List LineState) → Waits states → map (onState 1) (map (onState j) states) ≡ map (onState (suc j)) states
-all-wait-more j [] h = refl
-all-wait-more j (s ∷ states) h =
-    let one = waits-more j s (h .0) in
-    let rest = all-wait-more j states (h .1) in
-    λ k. one k ∷ rest k
-
 pub on-more : (at i p j : ℕ) (states : List LineState) → at + suc j < 64 → Alone at i p states → map (onState 1) (map (onState j) states) ≡ map (onState (suc j)) states
-on-more at i p j [] low h = refl
-on-more at i p j (s ∷ states) low (inl (here, is, rest)) =
+on-more at i p j states low h =
     let next : at + j + 1 ≡ at + suc j = omega arith in
-    let one : onState 1 (onState j s) ≡ onState (suc j) s =
-    ap (λ (z : LineState). onState 1 (onState j z)) is
-    ∙ ap (onState 1) (on-searching at j (omega arith))
+    let one : onState 1 (onState j (searching at Bit)) ≡ onState (suc j) (searching at Bit) =
+    ap (onState 1) (on-searching at j (omega arith))
     ∙ on-searching (at + j) 1 (omega arith)
     ∙ ap (λ (b : ℕ). searching b Bit) next
-    ∙ sym (on-searching at (suc j) low)
-    ∙ sym (ap (onState (suc j)) is) in
-    let more = all-wait-more j states rest in
-    λ k. one k ∷ more k
-on-more at i p j (s ∷ states) low (inr (waits, rest)) =
-    let one = waits-more j s waits in
-    let more = on-more at i (suc p) j states low rest in
-    λ k. one k ∷ more k
+    ∙ sym (on-searching at (suc j) low) in
+    each-maps (onState 1) (onState j) p states
+    ∙ same-alone (λ q s. onState 1 (onState j s)) (λ q s. onState (suc j) s) (λ q s e. waits-more j s e) at i p states one h
+    ∙ sym (each-map (onState (suc j)) p states)
 
 -- no bit
 waits-none : (s : LineState) → waitsIn (s .stage) ≡ true → onState 0 s ≡ s
 waits-none s e = on-waiting 0 s e ∙ sym (ap lineState (waits-is (s .stage) e))
 
-all-wait-none : (states : List LineState) → Waits states → map (onState 0) states ≡ states
-all-wait-none [] h = refl
-all-wait-none (s ∷ states) h =
-    let one = waits-none s (h .0) in
-    let rest = all-wait-none states (h .1) in
-    λ k. one k ∷ rest k
-
 pub on-none : (at i p : ℕ) (states : List LineState) → at < 64 → Alone at i p states → map (onState 0) states ≡ states
-on-none at i p [] low h = refl
-on-none at i p (s ∷ states) low (inl (here, is, rest)) =
-    let one : onState 0 s ≡ s = ap (onState 0) is ∙ on-searching at 0 (omega arith) ∙ ap (λ (b : ℕ). searching b Bit) (add-zero at) ∙ sym is in
-    let more = all-wait-none states rest in
-    λ k. one k ∷ more k
-on-none at i p (s ∷ states) low (inr (waits, rest)) =
-    let one = waits-none s waits in
-    let more = on-none at i (suc p) states low rest in
-    λ k. one k ∷ more k
+on-none at i p states low h =
+    each-map (onState 0) p states
+    ∙ same-alone (λ q s. onState 0 s) (λ q s. s) (λ q s e. waits-none s e) at i p states (on-searching at 0 (omega arith) ∙ ap (λ (b : ℕ). searching b Bit) (add-zero at)) h
+    ∙ sym (each-map (λ s. s) p states)
+    ∙ map-id states
+  where
+    map-id : (states : List LineState) → map (λ s. s) states ≡ states
+    map-id [] = refl
+    map-id (s ∷ states) = ap (λ (l : List LineState). s ∷ l) (map-id states)
 
 -- the device is one of them
 pub alone-there : (at i p : ℕ) (states : List LineState) → Alone at i p states → i < p + length states
@@ -404,34 +424,15 @@ module _ (image : List ℕ) where
       let is : s ≡ waitingState = ap lineState (waits-is (s .stage) e) in
       ap (λ (z : LineState). stepsLeave (d .kind) (d .body) levels 3 z) is ∙ steps-waiting (d .kind) (d .body) levels 3 ∙ sym (ap (onState 1) is)
 
-  all-wait-still : (levels p : ℕ) (states : List LineState) → Waits states → map (stepsOf levels 3) (devicesIn image p states) ≡ map (onState 1) states
-  unfolding devicesIn
-  all-wait-still levels p [] h = refl
-  all-wait-still levels p (s ∷ states) h =
-      let one = waits-still levels p s (h .0) in
-      let rest = all-wait-still levels (suc p) states (h .1) in
-      λ j. one j ∷ rest j
-
   pub bit-after : (b i p levels : ℕ) (states : List LineState) → b < 63 → SizedIn i → bitOf levels 2 ≡ bitAt (bodyIn i) b → Alone b i p states
       → map (stepsOf levels 3) (devicesIn image p states) ≡ map (onState 1) states
-  unfolding devicesIn
-  bit-after b i p levels [] low sized is h = absurd h
-  bit-after b i p levels (s ∷ states) low sized is (inl (here, stands, rest)) =
-      let one : stepsOf levels 3 (deviceIn image p s) ≡ onState 1 s =
-      ap (λ (z : LineState). stepsOf levels 3 (deviceIn image p z)) stands
-      ∙ ap (λ (q : ℕ). stepsOf levels 3 (deviceIn image q (searching b Bit))) here
-      ∙ bit-on b i levels sized low is
-      ∙ sym (on-searching b 1 (omega arith))
-      ∙ sym (ap (onState 1) stands) in
-      let more = all-wait-still levels (suc p) states rest in
-      λ j. one j ∷ more j
-  bit-after b i p levels (s ∷ states) low sized is (inr (waits, rest)) =
-      let one = waits-still levels p s waits in
-      let more = bit-after b i (suc p) levels states low sized is rest in
-      λ j. one j ∷ more j
+  bit-after b i p levels states low sized is h =
+      each-device image (stepsOf levels 3) p states
+      ∙ same-alone (λ q s. stepsOf levels 3 (deviceIn image q s)) (λ q s. onState 1 s) (λ q s e. waits-still levels q s e) b i p states
+      (bit-on b i levels sized low is ∙ sym (on-searching b 1 (omega arith))) h
+      ∙ sym (each-map (onState 1) p states)
 
   -- the devices' line states are those that they were made of
   pub states-of : (n p : ℕ) (states : List LineState) → map (λ (d : Device). onState n (d .state)) (devicesIn image p states) ≡ map (onState n) states
-  unfolding devicesIn deviceIn deviceAt
-  states-of n p [] = refl
-  states-of n p (s ∷ states) = ap (λ (l : List LineState). onState n s ∷ l) (states-of n (suc p) states)
+  unfolding deviceIn deviceAt
+  states-of n p states = each-device image (λ d. onState n (d .state)) p states ∙ sym (each-map (onState n) p states)

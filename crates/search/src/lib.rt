@@ -5,7 +5,15 @@
 // stored between is a function by value over the buffers.
 use device::LineState;
 use master::Answer;
+use master::CODE_BITS;
+use master::CODE_BYTES;
+use master::COMMAND_BITS;
+use master::MOST_PASSES;
 use master::Master;
+use master::PASS_EVENTS;
+use master::READ_SLOT;
+use master::RESET;
+use master::SEARCH_ROM;
 use master::Stage;
 use master::Step;
 ghost use mathlib.Core.Path.{_≡_};
@@ -19,7 +27,7 @@ ghost use Rattle.master.specs.Master.{codeBytes, fresh, nextOf, stepOf};
 ghost use Rattle.master.specs.Bit.{bitSteps, readingOf};
 ghost use Rattle.master.specs.Drive.{codeCompleted, over};
 ghost use Rattle.bits.specs.Bit.{bitOf, levelByte};
-ghost use Rattle.bits.specs.Slots.{levelsIn, countIn};
+ghost use Rattle.bits.specs.Slots.{levelsIn};
 ghost use Rattle.bus.specs.Bus.{eventOf};
 ghost use Rattle.bus.specs.Loops.{loneLevels};
 ghost use Rattle.bus.specs.Run.{statesOf};
@@ -43,32 +51,13 @@ pub struct Found {
 // The number of a search that is not refused.
 const ACCEPTED: u32 = 0;
 
-// The event of a reset; a slot is a lower one.
-const RESET: u8 = 2;
-
-// The events of a pass, and the bytes of a code.
-const PASS_EVENTS: usize = 201;
-
-const CODE_BYTES: usize = 8;
-
-// The passes that a search may take.
-const MOST_PASSES: u8 = 64;
-
-// The read slot, and the slots of a bit.
-const READ_SLOT: u8 = 1;
-
+// The slots of a bit.
 const BIT_SLOTS: u8 = 3;
 
-// The search command, its bits, and its levels as the master leaves them.
-const SEARCH_ROM: u8 = 0xF0;
-
-const COMMAND_BITS: u8 = 8;
-
+// The levels of the slots of the search command, as the master leaves them.
 const COMMAND_LEVELS: u32 = 0xF0;
 
-// The last bit of a code, and the first of which the slots of the rest but that bit are no more than a word holds.
-const LAST_BIT: u8 = 63;
-
+// The first bit of which the slots of the rest, but those of the last bit, are no more than a word holds.
 const SHORT_REST: u8 = 53;
 
 // ---- why a search is refused
@@ -196,13 +185,6 @@ fn step_in(told: Told) -> Step
     ensures { λ r. ⌜ r ≡ told .step ⌝ }
 {
     told.step
-}
-
-// How many events a stretch has.
-fn stretch_length(stretch: u64) -> usize
-    ensures { λ r. ⌜ r ≡ countIn stretch ⌝ }
-{
-    bits::count_in(stretch) as usize
 }
 
 // The level of slot j of those to come, as the devices leave it.
@@ -388,7 +370,7 @@ fn tell_bits(trace: &mut [u8], sent: usize, levels: [u8; 8], master: Master) -> 
     ensures { λ r. ⌜ (r ≡ codeTold master levels) × (now (trace .exit) ≡ codeTrace (now (trace .entry)) sent levels (readingOf master) (bitsLeft master)) ⌝ }
 {
     let at = master.reading();
-    let count = LAST_BIT - at;
+    let count = CODE_BITS - 1 - at;
     write_code(trace, sent, levels, at, count);
     let next = master.follow(levels);
     let stretch = bits::slots_word(0, 3 * count);
@@ -560,7 +542,7 @@ fn exchange(image: &[u8], codes: &mut [u8], trace: &mut [u8], lines: &mut [LineS
         let stretch = stretch_in(told);
         bus::steps_all(image, lines, event, stretch);
         step = step_in(told);
-        sent = sent + stretch_length(stretch);
+        sent = sent + bus::stretch_length(stretch);
     }
     sent
 }

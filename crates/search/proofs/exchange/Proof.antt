@@ -101,10 +101,10 @@ use Rattle.search.proofs.step_in as step-in
 use Rattle.search.proofs.step_in.Symbol as step-in-def
 use Rattle.search.proofs.step_in.Symbol.{name as #search·step-in}
 use Rattle.search.proofs.step_in.Met as step-in-thm
-use Rattle.search.proofs.stretch_length as stretch-length
-use Rattle.search.proofs.stretch_length.Symbol as stretch-length-def
-use Rattle.search.proofs.stretch_length.Symbol.{name as #search·stretch-length}
-use Rattle.search.proofs.stretch_length.Met as stretch-length-thm
+use Rattle.bus.proofs.stretch_length as stretch-length
+use Rattle.bus.proofs.stretch_length.Symbol as stretch-length-def
+use Rattle.bus.proofs.stretch_length.Symbol.{name as #bus·stretch-length}
+use Rattle.bus.proofs.stretch_length.Met as stretch-length-thm
 use Rattle.search.proofs.exchange.Key.{name as #search·exchange}
 use Rattle.search.proofs.exchange as exchange
 use Rattle.search.proofs.exchange.Statement as stated
@@ -338,7 +338,7 @@ module _ {M : Type 1} (𝓤 : URA M) (H : Heap 𝓤) (A : Atoms 𝓤) (W : Given
   length-of : (k r : ℕ) → ent 𝓤 (ensured 𝓤 H A stretch-length.ended (stretch-length.clauses 𝓤 H A mem run) tt (str k, tt) tt r) (fact 𝓤 (r ≡ countIn (str k)))
   length-of k r = exE 𝓤 _ (λ ws. snd∗ 𝓤 (sem 𝓤 H A (lasts stretch-length.ended tt (str k, tt) ws)) (fact 𝓤 (r ≡ countIn (str k))))
 
-  module _ (𝓣 : Tables 𝓤 H) (fm : FmC 𝓤 H (W .laws) (𝓣 .C)) (known-first : Triple 𝓤 (𝓣 .C #search·first-step) (First 𝓤 H A mem run)) (known-has : Triple 𝓤 (𝓣 .C #search·has-event) (Has 𝓤 H A mem run)) (known-in : Triple 𝓤 (𝓣 .C #search·event-in) (In 𝓤 H A mem run)) (known-ahead : Triple 𝓤 (𝓣 .C #bus·ahead) (Ahead 𝓤 H A mem run)) (known-tell : Triple 𝓤 (𝓣 .C #search·tell) (Tell 𝓤 H A mem run)) (known-stretch : Triple 𝓤 (𝓣 .C #search·stretch-in) (Stretch 𝓤 H A mem run)) (known-steps : Triple 𝓤 (𝓣 .C #bus·steps-all) (StepsAll 𝓤 H A mem run)) (known-step : Triple 𝓤 (𝓣 .C #search·step-in) (StepIn 𝓤 H A mem run)) (known-length : Triple 𝓤 (𝓣 .C #search·stretch-length) (Length 𝓤 H A mem run))
+  module _ (𝓣 : Tables 𝓤 H) (fm : FmC 𝓤 H (W .laws) (𝓣 .C)) (known-first : Triple 𝓤 (𝓣 .C #search·first-step) (First 𝓤 H A mem run)) (known-has : Triple 𝓤 (𝓣 .C #search·has-event) (Has 𝓤 H A mem run)) (known-in : Triple 𝓤 (𝓣 .C #search·event-in) (In 𝓤 H A mem run)) (known-ahead : Triple 𝓤 (𝓣 .C #bus·ahead) (Ahead 𝓤 H A mem run)) (known-tell : Triple 𝓤 (𝓣 .C #search·tell) (Tell 𝓤 H A mem run)) (known-stretch : Triple 𝓤 (𝓣 .C #search·stretch-in) (Stretch 𝓤 H A mem run)) (known-steps : Triple 𝓤 (𝓣 .C #bus·steps-all) (StepsAll 𝓤 H A mem run)) (known-step : Triple 𝓤 (𝓣 .C #search·step-in) (StepIn 𝓤 H A mem run)) (known-length : Triple 𝓤 (𝓣 .C #bus·stretch-length) (Length 𝓤 H A mem run))
       (room : Room u8 (length im)) (room₁ : Room u8 (length codes)) (room₂ : Room u8 (length trace)) (room₃ : Room R (length ys))
       (l₀ l₁ l₂ l₃ l₄ l₅ l₆ l₇ l₈ l₉ l₁₀ l₁₁ l₁₂ l₁₃ l₁₄ l₁₅ l₁₆ l₁₇ l₁₈ l₁₉ l₂₀ l₂₁ : ℕ) where
     abbrev C : Calls 𝓤 H
@@ -763,7 +763,7 @@ module _ {M : Type 1} (𝓤 : URA M) (H : Heap 𝓤) (A : Atoms 𝓤) (W : Given
         by ! (loops (spelledP (stepOf fresh 0) w got))))))
 
   -- the locals are allocated, and the parameters passed
-  walk : (𝓣 : Tables 𝓤 H) → Triple 𝓤 (𝓣 .C #search·first-step) (First 𝓤 H A mem run) → Triple 𝓤 (𝓣 .C #search·has-event) (Has 𝓤 H A mem run) → Triple 𝓤 (𝓣 .C #search·event-in) (In 𝓤 H A mem run) → Triple 𝓤 (𝓣 .C #bus·ahead) (Ahead 𝓤 H A mem run) → Triple 𝓤 (𝓣 .C #search·tell) (Tell 𝓤 H A mem run) → Triple 𝓤 (𝓣 .C #search·stretch-in) (Stretch 𝓤 H A mem run) → Triple 𝓤 (𝓣 .C #bus·steps-all) (StepsAll 𝓤 H A mem run) → Triple 𝓤 (𝓣 .C #search·step-in) (StepIn 𝓤 H A mem run) → Triple 𝓤 (𝓣 .C #search·stretch-length) (Length 𝓤 H A mem run)
+  walk : (𝓣 : Tables 𝓤 H) → Triple 𝓤 (𝓣 .C #search·first-step) (First 𝓤 H A mem run) → Triple 𝓤 (𝓣 .C #search·has-event) (Has 𝓤 H A mem run) → Triple 𝓤 (𝓣 .C #search·event-in) (In 𝓤 H A mem run) → Triple 𝓤 (𝓣 .C #bus·ahead) (Ahead 𝓤 H A mem run) → Triple 𝓤 (𝓣 .C #search·tell) (Tell 𝓤 H A mem run) → Triple 𝓤 (𝓣 .C #search·stretch-in) (Stretch 𝓤 H A mem run) → Triple 𝓤 (𝓣 .C #bus·steps-all) (StepsAll 𝓤 H A mem run) → Triple 𝓤 (𝓣 .C #search·step-in) (StepIn 𝓤 H A mem run) → Triple 𝓤 (𝓣 .C #bus·stretch-length) (Length 𝓤 H A mem run)
       → Room u8 (length im) → Room u8 (length codes) → Room u8 (length trace) → Room R (length ys)
       → ent 𝓤 (onEntry 𝓤 H A exchange.signature (κ, (κ₁, (κ₂, (κ₃, tt)))) (q, (q₁, (q₂, (q₃, tt)))) a vals) (WpFn 𝓤 H (𝓣 .C) (𝓣 .Λ) code.function (s ∷ s₁ ∷ s₂ ∷ s₃ ∷ []) Post)
   walk 𝓣 known-first known-has known-in known-ahead known-tell known-stretch known-steps known-step known-length room room₁ room₂ room₃ =
@@ -773,7 +773,7 @@ module _ {M : Type 1} (𝓤 : URA M) (H : Heap 𝓤) (A : Atoms 𝓤) (W : Given
       begins 𝓣 (fmOf 𝓤 H (W .laws) 𝓣) known-first known-has known-in known-ahead known-tell known-stretch known-steps known-step known-length room room₁ room₂ room₃ l₀ l₁ l₂ l₃ l₄ l₅ l₆ l₇ l₈ l₉ l₁₀ l₁₁ l₁₂ l₁₃ l₁₄ l₁₅ l₁₆ l₁₇ l₁₈ l₁₉ l₂₀ l₂₁))))))))))))))))))))))
 
 module _ {M : Type 1} (𝓤 : URA M) (H : Heap 𝓤) (A : Atoms 𝓤) (W : Given 𝓤 H A) (mem : Memory → SProp 𝓤) (run : Routine → Fun 𝓤) (𝓣 : Tables 𝓤 H)
-    (known-first : Triple 𝓤 (𝓣 .C #search·first-step) (First 𝓤 H A mem run)) (known-has : Triple 𝓤 (𝓣 .C #search·has-event) (Has 𝓤 H A mem run)) (known-in : Triple 𝓤 (𝓣 .C #search·event-in) (In 𝓤 H A mem run)) (known-ahead : Triple 𝓤 (𝓣 .C #bus·ahead) (Ahead 𝓤 H A mem run)) (known-tell : Triple 𝓤 (𝓣 .C #search·tell) (Tell 𝓤 H A mem run)) (known-stretch : Triple 𝓤 (𝓣 .C #search·stretch-in) (Stretch 𝓤 H A mem run)) (known-steps : Triple 𝓤 (𝓣 .C #bus·steps-all) (StepsAll 𝓤 H A mem run)) (known-step : Triple 𝓤 (𝓣 .C #search·step-in) (StepIn 𝓤 H A mem run)) (known-length : Triple 𝓤 (𝓣 .C #search·stretch-length) (Length 𝓤 H A mem run)) where
+    (known-first : Triple 𝓤 (𝓣 .C #search·first-step) (First 𝓤 H A mem run)) (known-has : Triple 𝓤 (𝓣 .C #search·has-event) (Has 𝓤 H A mem run)) (known-in : Triple 𝓤 (𝓣 .C #search·event-in) (In 𝓤 H A mem run)) (known-ahead : Triple 𝓤 (𝓣 .C #bus·ahead) (Ahead 𝓤 H A mem run)) (known-tell : Triple 𝓤 (𝓣 .C #search·tell) (Tell 𝓤 H A mem run)) (known-stretch : Triple 𝓤 (𝓣 .C #search·stretch-in) (Stretch 𝓤 H A mem run)) (known-steps : Triple 𝓤 (𝓣 .C #bus·steps-all) (StepsAll 𝓤 H A mem run)) (known-step : Triple 𝓤 (𝓣 .C #search·step-in) (StepIn 𝓤 H A mem run)) (known-length : Triple 𝓤 (𝓣 .C #bus·stretch-length) (Length 𝓤 H A mem run)) where
   exchange-walks : Walks 𝓤 H A exchange.ended stayed (WpFn 𝓤 H (𝓣 .C) (𝓣 .Λ) code.function) (exchange.clauses 𝓤 H A mem run)
   exchange-walks = walked 𝓤 H A exchange.ended stayed (exchange.clauses 𝓤 H A mem run) (WpFn 𝓤 H (𝓣 .C) (𝓣 .Λ) code.function)
       (λ κs. (slice-vals, (slice-vals, (slice-vals, (slice-vals, tt))))) (λ κs. (shr-slice-tells (named 0) (κs .0) u8, (mut-slice-tells (named 1) (κs .1 .0) u8, (mut-slice-tells (named 2) (κs .1 .1 .0) u8, (mut-slice-tells (named 3) (κs .1 .1 .1 .0) R, tt)))))
@@ -801,4 +801,4 @@ exchange-spec 𝓤 H 𝓜 𝓖 𝓡 =
     (cited 𝓤 H (Stretch 𝓤 H (𝓖 .A) (𝓜 .mem) (𝓡 .run)) 𝓜 𝓡 code.env #search·stretch-in stretch-in-def.routine code.calls-search·stretch-in (stretch-in-thm.met 𝓤 H 𝓜 𝓖 𝓡))
     (cited 𝓤 H (StepsAll 𝓤 H (𝓖 .A) (𝓜 .mem) (𝓡 .run)) 𝓜 𝓡 code.env #bus·steps-all steps-all-def.routine code.calls-bus·steps-all (steps-all-thm.met 𝓤 H 𝓜 𝓖 𝓡))
     (cited 𝓤 H (StepIn 𝓤 H (𝓖 .A) (𝓜 .mem) (𝓡 .run)) 𝓜 𝓡 code.env #search·step-in step-in-def.routine code.calls-search·step-in (step-in-thm.met 𝓤 H 𝓜 𝓖 𝓡))
-    (cited 𝓤 H (Length 𝓤 H (𝓖 .A) (𝓜 .mem) (𝓡 .run)) 𝓜 𝓡 code.env #search·stretch-length stretch-length-def.routine code.calls-search·stretch-length (stretch-length-thm.met 𝓤 H 𝓜 𝓖 𝓡)))
+    (cited 𝓤 H (Length 𝓤 H (𝓖 .A) (𝓜 .mem) (𝓡 .run)) 𝓜 𝓡 code.env #bus·stretch-length stretch-length-def.routine code.calls-bus·stretch-length (stretch-length-thm.met 𝓤 H 𝓜 𝓖 𝓡)))

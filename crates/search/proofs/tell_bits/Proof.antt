@@ -10,6 +10,9 @@ reading-requires c κs = search needs
 sub-count : tie.Need-sub-count
 sub-count c = search needs
 
+sub-count-2 : tie.Need-sub-count-2
+sub-count-2 c = search needs
+
 write-code-requires : tie.Need-write-code-requires
 write-code-requires c κs = search needs
 
@@ -35,6 +38,7 @@ tell-bits-spec =
     (tie.spec
     reading-requires
     sub-count
+    sub-count-2
     write-code-requires
     follow-requires
     mul-slots-word
