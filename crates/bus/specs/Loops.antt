@@ -85,12 +85,12 @@ deviceAhead d = aheadOf (d .state) (d .kind) (d .body)
 abbrev pub lineAt : List LineState → ℕ → LineState
 lineAt lines i = getD lines i waitingState
 
--- with none, ones in more slots than a stretch has
+-- by no device: ones, in more slots than a stretch has
 abbrev pub ones : ℕ
 ones = 0xFFFFFFFFFFFFFFFF
 
--- the mark of a device that does not wait, where it is the only one: above the slots of a word, which code bit it is at in a search, counted
--- from 1, and its number. A device that is elsewhere has none
+-- the mark of device i, where every other waits: above the slots of a word, at which code bit of a search it is, counted from 1, and its
+-- number. A device that is elsewhere has none
 unfoldable pub bitMark : ℕ → ℕ → ℕ
 bitMark i at = cond (ltb i 64 && ltb at 64) (0x10000000000 * (at + 1) + 0x1000000000000 * i) 0
 
@@ -128,11 +128,12 @@ loneBit ahead = ahead / 0x10000000000 % 256
 unfoldable pub loneDevice : ℕ → ℕ
 loneDevice ahead = ahead / 0x1000000000000 % 256
 
--- what that device leaves the line at, where each direction is its bit: the first read slot of code bit b is at bit b of these bytes, the second
--- at its complement
+-- the first eight bytes of a body, its code
 unfoldable pub firstEight : List ℕ → List ℕ
 firstEight body = getD body 0 0 ∷ getD body 1 0 ∷ getD body 2 0 ∷ getD body 3 0 ∷ getD body 4 0 ∷ getD body 5 0 ∷ getD body 6 0 ∷ getD body 7 0 ∷ []
 
+-- what that device leaves the line at, where each direction is its bit: the first read slot of code bit b is at bit b of these bytes, the second
+-- at its complement
 unfoldable pub loneLevels : List ℕ → ℕ → List ℕ
 loneLevels image ahead = firstEight (deviceIn image (loneDevice ahead) waitingState .body)
 

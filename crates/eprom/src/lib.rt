@@ -60,7 +60,7 @@ fn field_read(read: EpromRead) -> Field
     }
 }
 
-fn read_code(read: EpromRead) -> u8
+fn read_command(read: EpromRead) -> u8
     ensures { λ r. ⌜ r ≡ readCommand read ⌝ }
 {
     match read {
@@ -70,7 +70,7 @@ fn read_code(read: EpromRead) -> u8
     }
 }
 
-fn write_code(field: Field) -> u8
+fn write_command(field: Field) -> u8
     ensures { λ r. ⌜ r ≡ writeCommand field ⌝ }
 {
     match field {
@@ -136,7 +136,7 @@ fn read_latch(read: EpromRead, address: u16) -> Stage
     ensures { λ r. ⌜ r ≡ readLatch read address ⌝ }
 {
     let start = cut(field_read(read), address);
-    let register = command_crc(read_code(read), start);
+    let register = command_crc(read_command(read), start);
     in_eprom(EpromStage::ReadCrc {
         read,
         address: start as u8,
@@ -150,7 +150,7 @@ fn write_latch(field: Field, address: u16) -> Stage
     ensures { λ r. ⌜ r ≡ writeLatch field address ⌝ }
 {
     let start = cut(field, address);
-    let register = command_crc(write_code(field), start);
+    let register = command_crc(write_command(field), start);
     in_eprom(EpromStage::WriteData {
         field,
         address: start as u8,

@@ -1,5 +1,6 @@
 -- Document 01, 'The searching master': a bit of a code is two read slots and a direction. Here their three steps are taken at once, so that a
--- search need not copy the master for each. Nothing is decided here: `bitSteps` is `nextOf` three times.
+-- search need not copy the master for each, and those of many bits in which no two devices differ. Nothing is decided here: `bitSteps` is `nextOf`
+-- three times, and `followedBits` is `bitSteps` for each bit (`followed-next` in `proofs/Bit.antt`).
 use Prim.Native.Nat.{ℕ, zero, suc, _+_, _-_}
 use mathlib.Core.Bool.{Bool, false, cond, _&&_}
 use mathlib.Core.List.{List}
@@ -57,7 +58,7 @@ unfoldable pub withDirections : List ℕ → List ℕ → ℕ → ℕ → List �
 withDirections code levels at zero = code
 withDirections code levels at (suc j) = putBit (withDirections code levels at j) (at + j) (bitAt levels (at + j))
 
--- the master after so many bits from `at` on: each direction is the level of the first read slot (`proofs/Bit.antt`)
+-- the master after so many bits from `at` on: each direction is the level of the first read slot
 unfoldable pub followedBits : Master → List ℕ → ℕ → ℕ → Master
 followedBits m levels at j = record {
   stage = FirstRead (at + j);

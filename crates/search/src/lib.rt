@@ -138,7 +138,7 @@ fn event_in(step: Step) -> u8
 }
 
 // A level as a byte.
-fn answer_of(level: bool) -> u8
+fn level_byte(level: bool) -> u8
     ensures { λ r. ⌜ r ≡ levelByte level ⌝ }
 {
     if level { 1 } else { 0 }
@@ -160,7 +160,7 @@ fn next_step(
     bits::put_byte(trace, sent, event);
     let master = step.next;
     let completed = master.passes;
-    let given = answer_of(level);
+    let given = level_byte(level);
     let step = master.step(given);
     let next = step.next;
     master::keep_code(codes, completed, next);
@@ -226,7 +226,7 @@ fn tell_one(
     let event = event_in(step);
     let level = one_level(image, event, ahead);
     let next = next_step(codes, trace, sent, step, event, level);
-    let stretch = bits::slots_word(answer_of(level) as u32, 1);
+    let stretch = bits::slots_word(level_byte(level) as u32, 1);
     Told {
         step: next,
         stretch,
@@ -311,7 +311,7 @@ fn write_command(trace: &mut [u8], sent: usize)
         bits::put_byte(
             trace,
             sent + wide(j),
-            answer_of(bits::bit_of(SEARCH_ROM, j)),
+            level_byte(bits::bit_of(SEARCH_ROM, j)),
         );
         j = j + 1;
     }
@@ -359,7 +359,7 @@ fn write_code(trace: &mut [u8], sent: usize, levels: [u8; 8], at: u8, count: u8)
     let mut j: u8 = 0;
     while j < count {
         let level = bits::bit_at(&levels, wide(at) + wide(j));
-        write_bit(trace, sent + 3 * wide(j), answer_of(level));
+        write_bit(trace, sent + 3 * wide(j), level_byte(level));
         j = j + 1;
     }
 }

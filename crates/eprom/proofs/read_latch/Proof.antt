@@ -11,8 +11,8 @@ field-read-requires c κs = search needs
 cut-requires : tie.Need-cut-requires
 cut-requires c κs = search needs
 
-read-code-requires : tie.Need-read-code-requires
-read-code-requires c κs = search needs
+read-command-requires : tie.Need-read-command-requires
+read-command-requires c κs = search needs
 
 command-crc-requires : tie.Need-command-crc-requires
 command-crc-requires c κs = search needs
@@ -25,7 +25,7 @@ in-eprom-requires c κs = search needs
 
 returns : tie.Need-returns
 unfolding readLatch
-returns c = simp (c .in-eprom .ensures, c .before .command-crc .ensures, c .before .before .read-code .ensures, c .before .before .before .cut .ensures, c .before .before .before .before .field-read .ensures)
+returns c = simp (c .in-eprom .ensures, c .before .command-crc .ensures, c .before .before .read-command .ensures, c .before .before .before .cut .ensures, c .before .before .before .before .field-read .ensures)
 
 pub read-latch-spec : {M : Type 1} → statement M
 read-latch-spec =
@@ -33,7 +33,7 @@ read-latch-spec =
     (tie.spec
     field-read-requires
     cut-requires
-    read-code-requires
+    read-command-requires
     command-crc-requires
     cast-t6
     in-eprom-requires

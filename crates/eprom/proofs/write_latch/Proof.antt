@@ -8,8 +8,8 @@ use Rattle.eprom.proofs.write_latch.Tie as tie
 cut-requires : tie.Need-cut-requires
 cut-requires c κs = search needs
 
-write-code-requires : tie.Need-write-code-requires
-write-code-requires c κs = search needs
+write-command-requires : tie.Need-write-command-requires
+write-command-requires c κs = search needs
 
 command-crc-requires : tie.Need-command-crc-requires
 command-crc-requires c κs = search needs
@@ -22,14 +22,14 @@ in-eprom-requires c κs = search needs
 
 returns : tie.Need-returns
 unfolding writeLatch
-returns c = simp (c .in-eprom .ensures, c .before .command-crc .ensures, c .before .before .write-code .ensures, c .before .before .before .cut .ensures)
+returns c = simp (c .in-eprom .ensures, c .before .command-crc .ensures, c .before .before .write-command .ensures, c .before .before .before .cut .ensures)
 
 pub write-latch-spec : {M : Type 1} → statement M
 write-latch-spec =
     tie.close
     (tie.spec
     cut-requires
-    write-code-requires
+    write-command-requires
     command-crc-requires
     cast-t5
     in-eprom-requires

@@ -9,8 +9,8 @@ use Rattle.search.proofs.next_step.Tie as tie
 put-byte-requires : tie.Need-put-byte-requires
 put-byte-requires c κs = search needs
 
-answer-of-requires : tie.Need-answer-of-requires
-answer-of-requires c κs = search needs
+level-byte-requires : tie.Need-level-byte-requires
+level-byte-requires c κs = search needs
 
 step-requires : tie.Need-step-requires
 step-requires c κs = search needs
@@ -26,14 +26,14 @@ same-length-2 c = search needs
 
 returns : tie.Need-returns
 unfolding levelByte stateAfterSlot sent codeCompleted
-returns c = simp (c .before .before .keep-code .ensures, c .before .before .before .before .before .step .ensures .0, c .before .before .before .before .before .before .answer-of .ensures, c .before .before .before .before .before .before .before .before .before .before .put-byte .ensures) (refl, refl, refl)
+returns c = simp (c .before .before .keep-code .ensures, c .before .before .before .before .before .step .ensures .0, c .before .before .before .before .before .before .level-byte .ensures, c .before .before .before .before .before .before .before .before .before .before .put-byte .ensures) (refl, refl, refl)
 
 pub next-step-spec : {M : Type 1} → statement M
 next-step-spec =
     tie.close
     (tie.spec
     put-byte-requires
-    answer-of-requires
+    level-byte-requires
     step-requires
     keep-code-requires
     same-length

@@ -15,8 +15,8 @@ one-level-requires c κs = search needs
 next-step-requires : tie.Need-next-step-requires
 next-step-requires c κs = search needs
 
-answer-of-requires : tie.Need-answer-of-requires
-answer-of-requires c κs = search needs
+level-byte-requires : tie.Need-level-byte-requires
+level-byte-requires c κs = search needs
 
 cast-slots-word : tie.Need-cast-slots-word
 cast-slots-word c = search needs
@@ -32,7 +32,7 @@ same-length-2 c = search needs
 
 returns : tie.Need-returns
 unfolding eventOf sent eventIn oneLevel toldOne oneCodes
-returns c = simp (c .slots-word .ensures, c .before .answer-of .ensures, c .before .before .before .before .before .before .next-step .ensures .0, c .before .before .before .before .before .before .next-step .ensures .1, c .before .before .before .before .before .before .next-step .ensures .2, c .before .before .before .before .before .before .before .before .before .one-level .ensures, c .before .before .before .before .before .before .before .before .before .before .event-in .ensures) (refl, refl, refl)
+returns c = simp (c .slots-word .ensures, c .before .level-byte .ensures, c .before .before .before .before .before .before .next-step .ensures .0, c .before .before .before .before .before .before .next-step .ensures .1, c .before .before .before .before .before .before .next-step .ensures .2, c .before .before .before .before .before .before .before .before .before .one-level .ensures, c .before .before .before .before .before .before .before .before .before .before .event-in .ensures) (refl, refl, refl)
 
 pub tell-one-spec : {M : Type 1} → statement M
 tell-one-spec =
@@ -41,7 +41,7 @@ tell-one-spec =
     event-in-requires
     one-level-requires
     next-step-requires
-    answer-of-requires
+    level-byte-requires
     cast-slots-word
     slots-word-requires
     same-length

@@ -53,8 +53,8 @@ mul-write-bit c = search needs
 add-write-bit : tie.Need-add-write-bit Inv-loop μ-loop
 add-write-bit c = search needs
 
-answer-of-requires : tie.Need-answer-of-requires Inv-loop μ-loop
-answer-of-requires c κs = search needs
+level-byte-requires : tie.Need-level-byte-requires Inv-loop μ-loop
+level-byte-requires c κs = search needs
 
 write-bit-requires : tie.Need-write-bit-requires Inv-loop μ-loop
 write-bit-requires c κs = search needs
@@ -72,7 +72,7 @@ loop-again c =
     let a = c .before .before .before .before .before .before .before .before .before .before .before .before .before .args in (
       omega arith,
       l .inv .1,
-      simp (c .before .before .write-bit .ensures, c .before .before .before .answer-of .ensures, c .before .before .before .before .wide3 .ensures, c .before .before .before .before .before .before .bit-at .ensures, c .before .before .before .before .before .before .before .wide2 .ensures, c .before .before .before .before .before .before .before .before .wide .ensures, add-one)
+      simp (c .before .before .write-bit .ensures, c .before .before .before .level-byte .ensures, c .before .before .before .before .wide3 .ensures, c .before .before .before .before .before .before .bit-at .ensures, c .before .before .before .before .before .before .before .wide2 .ensures, c .before .before .before .before .before .before .before .before .wide .ensures, add-one)
           (ap (λ (t : List ℕ). bitTrace t (a .sent + 3 * l .j) (levelByte (bitAt (a .t3) (a .at + l .j)))) (l .inv .2)),
     )
 
@@ -103,7 +103,7 @@ write-code-spec =
     wide-requires-3
     mul-write-bit
     add-write-bit
-    answer-of-requires
+    level-byte-requires
     write-bit-requires
     add-j
     loop-less

@@ -35,8 +35,8 @@ add-put-byte c = search needs
 bit-of-requires : tie.Need-bit-of-requires Inv-loop μ-loop
 bit-of-requires c κs = search needs
 
-answer-of-requires : tie.Need-answer-of-requires Inv-loop μ-loop
-answer-of-requires c κs = search needs
+level-byte-requires : tie.Need-level-byte-requires Inv-loop μ-loop
+level-byte-requires c κs = search needs
 
 put-byte-requires : tie.Need-put-byte-requires Inv-loop μ-loop
 put-byte-requires c κs = search needs
@@ -53,7 +53,7 @@ loop-again c =
     let l = c .before .before .before .before .before .before .before .before .loop in
     let a = c .before .before .before .before .before .before .before .before .before .before .args in (
       omega arith,
-      simp (c .before .before .put-byte .ensures, c .before .before .before .answer-of .ensures, c .before .before .before .before .bit-of .ensures, c .before .before .before .before .before .wide .ensures, add-one)
+      simp (c .before .before .put-byte .ensures, c .before .before .before .level-byte .ensures, c .before .before .before .before .bit-of .ensures, c .before .before .before .before .before .wide .ensures, add-one)
           (ap (λ (t : List ℕ). set t (a .sent + l .j) (levelByte (bitOf 0xF0 (l .j)))) (l .inv .1)),
     )
 
@@ -76,7 +76,7 @@ write-command-spec =
     wide-requires
     add-put-byte
     bit-of-requires
-    answer-of-requires
+    level-byte-requires
     put-byte-requires
     add-j
     loop-less
