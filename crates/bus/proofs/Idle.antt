@@ -60,11 +60,11 @@ module _ (byte : ℕ) (state : LineState) (idle : idleIn byte state ≡ true) wh
     idle-given-state stretch = slot-is (λ (v : Event). state ≡ stateGiven v (levelsIn stretch) (countIn stretch) d) byte (unfolded .0)
         (λ sent. unfolded .1
         ∙ sym (ap (λ (s : LineState). stateGiven (Slot sent) (levelsIn stretch) (countIn stretch) (deviceIn image i s)) (unfolded .1)
-        ∙ waits-on (ltb 32 (countIn stretch))))
+        ∙ waits-on _ (ltb 32 (countIn stretch))))
       where
-        waits-on : (t : Bool) → cond t waitingState (stepsLeave (d .kind) (d .body) (levelsIn stretch) (countIn stretch) waitingState) ≡ waitingState
-        waits-on true = refl
-        waits-on false = steps-waiting (d .kind) (d .body) (levelsIn stretch) (countIn stretch)
+        waits-on : (levels : ℕ) (t : Bool) → cond t waitingState (stepsLeave (d .kind) (d .body) levels (countIn stretch) waitingState) ≡ waitingState
+        waits-on levels true = refl
+        waits-on levels false = steps-waiting (d .kind) (d .body) levels (countIn stretch)
 
     -- given a stretch
     idle-given : (stretch : ℕ) → given byte stretch d ≡ d
