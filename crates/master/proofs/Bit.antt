@@ -14,7 +14,7 @@ use Rattle.master.specs.declared.Stage.the-variants.{Fresh, Reset, Comma
 use Rattle.master.specs.declared.Discrepancy.{Discrepancy}
 use Rattle.master.specs.declared.Master.{Master}
 use Rattle.master.specs.Master.{codeBits, mostPasses, event, end, endNumber, slot, readSlot, said, answerOf, says, withStage, stageInRange, inRange, sendDirection, afterReads, afterDirection, stepByStage, afterLevel, nextOf}
-use Rattle.master.specs.Bit.{stageReadsBit, readsBit, directionStep, bitSteps, stageReading, readingOf, withDirections, followedBits, followed}
+use Rattle.master.specs.Bit.{readsBit, directionStep, bitSteps, stageReading, readingOf, withDirections, followedBits, followed}
 use Rattle.master.specs.Drive.{codeCompleted}
 use Rattle.master.proofs.Laws.{both, goes-by-stage, ended-stays}
 use Rattle.master.proofs.Clock.{reads-passes}
@@ -27,20 +27,27 @@ pub record Reading (m : Master) (at : ℕ) : Type 0 where
   pub more : at < codeBits - 1
   pub going : m .passes < mostPasses
 
-stage-reading : (s : Stage) (passes : ℕ) → stageReadsBit s passes ≡ true → (at : ℕ) × (s ≡ FirstRead at) × (at < codeBits - 1) × (passes < mostPasses)
-unfolding stageReadsBit
-stage-reading Fresh passes h = absurd (true≢false (sym h))
-stage-reading Reset passes h = absurd (true≢false (sym h))
-stage-reading (Command at) passes h = absurd (true≢false (sym h))
-stage-reading (FirstRead at) passes h =
-    let b = both (ltb at (codeBits - 1)) (ltb passes mostPasses) h in (at, refl, ltb-true at (codeBits - 1) (b .0), ltb-true passes mostPasses (b .1))
-stage-reading (SecondRead at first) passes h = absurd (true≢false (sym h))
-stage-reading (Direction at bit) passes h = absurd (true≢false (sym h))
-stage-reading (Ended e) passes h = absurd (true≢false (sym h))
+stage-read : (s : Stage) (passes at : ℕ) → stageReading s passes ≡ at → at < codeBits → (s ≡ FirstRead at) × (passes < mostPasses)
+unfolding stageReading
+stage-read Fresh passes at e low = absurd (omega arith)
+stage-read Reset passes at e low = absurd (omega arith)
+stage-read (Command b) passes at e low = absurd (omega arith)
+stage-read (FirstRead b) passes at e low = choose (ltb passes mostPasses) refl e
+  where
+    choose : (t : Bool) → ltb passes mostPasses ≡ t → cond t b codeBits ≡ at → (FirstRead b ≡ FirstRead at) × (passes < mostPasses)
+    choose true t e = (ap FirstRead e, ltb-true passes mostPasses t)
+    choose false t e = absurd (omega arith)
+stage-read (SecondRead b first) passes at e low = absurd (omega arith)
+stage-read (Direction b bit) passes at e low = absurd (omega arith)
+stage-read (Ended x) passes at e low = absurd (omega arith)
+
+pub read-at : (m : Master) (at : ℕ) → readingOf m ≡ at → at < codeBits - 1 → Reading m at
+unfolding readingOf
+read-at m at e low = let r = stage-read (m .stage) (m .passes) at e (omega arith) in record { stands = r .0; more = low; going = r .1 }
 
 pub reading : (m : Master) → readsBit m ≡ true → (at : ℕ) × Reading m at
 unfolding readsBit
-reading m h = let r = stage-reading (m .stage) (m .passes) h in (r .0, record { stands = r .1; more = r .2; going = r .3 })
+reading m h = (readingOf m, read-at m (readingOf m) refl (ltb-true (readingOf m) (codeBits - 1) h))
 
 -- ---- its three steps
 
@@ -185,33 +192,16 @@ unfolding followed
 followed-not m levels at is high =
     ap (λ (b : Bool). cond b (followedBits m levels (readingOf m) (codeBits - 1 - readingOf m)) m) (sym (ap (λ (b : ℕ). ltb b (codeBits - 1)) (sym is) ∙ le-ltb at (codeBits - 1) high))
 
--- the bit that is read
-stage-read : (s : Stage) (passes at : ℕ) → stageReading s passes ≡ at → at < codeBits → (s ≡ FirstRead at) × (passes < mostPasses)
-unfolding stageReading
-stage-read Fresh passes at e low = absurd (omega arith)
-stage-read Reset passes at e low = absurd (omega arith)
-stage-read (Command b) passes at e low = absurd (omega arith)
-stage-read (FirstRead b) passes at e low = choose (ltb passes mostPasses) refl e
-  where
-    choose : (t : Bool) → ltb passes mostPasses ≡ t → cond t b codeBits ≡ at → (FirstRead b ≡ FirstRead at) × (passes < mostPasses)
-    choose true t e = (ap FirstRead e, ltb-true passes mostPasses t)
-    choose false t e = absurd (omega arith)
-stage-read (SecondRead b first) passes at e low = absurd (omega arith)
-stage-read (Direction b bit) passes at e low = absurd (omega arith)
-stage-read (Ended x) passes at e low = absurd (omega arith)
-
-pub read-at : (m : Master) (at : ℕ) → readingOf m ≡ at → at < codeBits - 1 → Reading m at
-unfolding readingOf
-read-at m at e low = let r = stage-read (m .stage) (m .passes) at e (omega arith) in record { stands = r .0; more = low; going = r .1 }
-
 -- after some of the bits it reads the next
 pub followed-reads : {m : Master} {at : ℕ} → Reading m at → (levels : List ℕ) (j : ℕ) → at + j < codeBits - 1 → Reading (followedBits m levels at j) (at + j)
 unfolding followedBits
 followed-reads r levels j low = record { stands = refl; more = low; going = r .going }
 
 pub reads-bit : {m : Master} {at : ℕ} → Reading m at → readsBit m ≡ true
-unfolding readsBit stageReadsBit
-reads-bit {m} {at} r = ap (λ (s : Stage). stageReadsBit s (m .passes)) (r .stands) ∙ rw (lt-ltb at (codeBits - 1) (r .more), lt-ltb (m .passes) mostPasses (r .going))
+unfolding readsBit readingOf stageReading
+reads-bit {m} {at} r =
+    ap (λ (s : Stage). ltb (stageReading s (m .passes)) (codeBits - 1)) (r .stands)
+    ∙ rw (lt-ltb (m .passes) mostPasses (r .going), lt-ltb at (codeBits - 1) (r .more))
 
 -- the three steps of the next
 pub followed-next : {m : Master} {at : ℕ} → Reading m at → (levels : List ℕ) (j : ℕ) → at + j < codeBits - 1 → (bit : Bool) → bitAt levels (at + j) ≡ bit

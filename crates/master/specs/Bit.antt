@@ -2,7 +2,7 @@
 -- search need not copy the master for each, and those of many bits in which no two devices differ. Nothing is decided here: `bitSteps` is `nextOf`
 -- three times, and `followedBits` is `bitSteps` for each bit (`followed-next` in `proofs/Bit.antt`).
 use Prim.Native.Nat.{ℕ, zero, suc, _+_, _-_}
-use mathlib.Core.Bool.{Bool, false, cond, _&&_}
+use mathlib.Core.Bool.{Bool, cond}
 use mathlib.Core.List.{List}
 use lib.Dec.{ltb}
 use Rattle.bits.specs.Bit.{bitAt, putBit, levelByte}
@@ -12,19 +12,22 @@ use Rattle.master.specs.declared.Master.{Master}
 use Rattle.master.specs.declared.Step.{Step}
 use Rattle.master.specs.Master.{codeBits, mostPasses, answerOf, nextOf}
 
--- the first read slot of a bit was sent last, and it is not the last bit, so that no code is completed in its steps
-unfoldable pub stageReadsBit : Stage → ℕ → Bool
-stageReadsBit Fresh passes = false
-stageReadsBit Reset passes = false
-stageReadsBit (Command at) passes = false
-stageReadsBit (FirstRead at) passes = ltb at (codeBits - 1) && ltb passes mostPasses
-stageReadsBit (SecondRead at first) passes = false
-stageReadsBit (Direction at bit) passes = false
-stageReadsBit (Ended e) passes = false
+-- the bit whose first read slot was sent last, in a pass that goes on; where there is none, as many as a code has
+unfoldable pub stageReading : Stage → ℕ → ℕ
+stageReading Fresh passes = codeBits
+stageReading Reset passes = codeBits
+stageReading (Command at) passes = codeBits
+stageReading (FirstRead at) passes = cond (ltb passes mostPasses) at codeBits
+stageReading (SecondRead at first) passes = codeBits
+stageReading (Direction at bit) passes = codeBits
+stageReading (Ended e) passes = codeBits
 
--- the same of a master
+unfoldable pub readingOf : Master → ℕ
+readingOf m = stageReading (m .stage) (m .passes)
+
+-- there is one, and it is not the last, so that no code is completed in its steps
 unfoldable pub readsBit : Master → Bool
-readsBit m = stageReadsBit (m .stage) (m .passes)
+readsBit m = ltb (readingOf m) (codeBits - 1)
 
 -- the master that was given the levels of both read slots
 abbrev pub bothRead : Master → Bool → Bool → Master
@@ -39,19 +42,6 @@ unfoldable pub bitSteps : Master → Bool → Bool → Step
 bitSteps m first second = directionStep (bothRead m first second)
 
 -- ---- bits in which no two devices differ: the second read slot of each is at the complement of the first
-
--- the bit whose first read slot was sent last, in a pass that goes on; where there is none, as many as a code has
-unfoldable pub stageReading : Stage → ℕ → ℕ
-stageReading Fresh passes = codeBits
-stageReading Reset passes = codeBits
-stageReading (Command at) passes = codeBits
-stageReading (FirstRead at) passes = cond (ltb passes mostPasses) at codeBits
-stageReading (SecondRead at first) passes = codeBits
-stageReading (Direction at bit) passes = codeBits
-stageReading (Ended e) passes = codeBits
-
-unfoldable pub readingOf : Master → ℕ
-readingOf m = stageReading (m .stage) (m .passes)
 
 -- a code with the directions of so many bits from `at` on: bit b of `levels` is the level of the first read slot of bit b
 unfoldable pub withDirections : List ℕ → List ℕ → ℕ → ℕ → List ℕ

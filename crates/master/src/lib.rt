@@ -363,21 +363,28 @@ impl Master {
         Step { answer, next }
     }
 
-    // Whether the first read slot of a bit was sent last, and the bit is not the last of a code.
-    pub fn reads_bit(self) -> bool
-        ensures { λ r. ⌜ r ≡ readsBit self ⌝ }
+    // The bit whose first read slot was sent last, in a pass that goes on; 64 where there is none.
+    pub fn reading(self) -> u8
+        ensures { λ r. ⌜ r ≡ readingOf self ⌝ }
     {
         let stage = self.stage;
         let passes = self.passes;
         match stage {
-            Stage::Fresh => false,
-            Stage::Reset => false,
-            Stage::Command { at: _ } => false,
-            Stage::FirstRead { at } => at < CODE_BITS - 1 && passes < MOST_PASSES,
-            Stage::SecondRead { at: _, first: _ } => false,
-            Stage::Direction { at: _, bit: _ } => false,
-            Stage::Ended(_) => false,
+            Stage::Fresh => CODE_BITS,
+            Stage::Reset => CODE_BITS,
+            Stage::Command { at: _ } => CODE_BITS,
+            Stage::FirstRead { at } => if passes < MOST_PASSES { at } else { CODE_BITS },
+            Stage::SecondRead { at: _, first: _ } => CODE_BITS,
+            Stage::Direction { at: _, bit: _ } => CODE_BITS,
+            Stage::Ended(_) => CODE_BITS,
         }
+    }
+
+    // Whether there is one, and it is not the last of a code.
+    pub fn reads_bit(self) -> bool
+        ensures { λ r. ⌜ r ≡ readsBit self ⌝ }
+    {
+        self.reading() < CODE_BITS - 1
     }
 
     // Sends the direction of a bit that is not the last, and then the first read slot of the next.
@@ -447,23 +454,6 @@ impl Master {
         let answer = answer_of(stage);
         let next = two.after(false);
         Step { answer, next }
-    }
-
-    // The bit whose first read slot was sent last, in a pass that goes on; 64 where there is none.
-    pub fn reading(self) -> u8
-        ensures { λ r. ⌜ r ≡ readingOf self ⌝ }
-    {
-        let stage = self.stage;
-        let passes = self.passes;
-        match stage {
-            Stage::Fresh => CODE_BITS,
-            Stage::Reset => CODE_BITS,
-            Stage::Command { at: _ } => CODE_BITS,
-            Stage::FirstRead { at } => if passes < MOST_PASSES { at } else { CODE_BITS },
-            Stage::SecondRead { at: _, first: _ } => CODE_BITS,
-            Stage::Direction { at: _, bit: _ } => CODE_BITS,
-            Stage::Ended(_) => CODE_BITS,
-        }
     }
 
     // The steps of the bits from the one that is read to the last but one, where no two devices differ in them: the first read slot of bit b is at

@@ -1,8 +1,8 @@
 // The search: the searching master, stepped with the levels of the bus and nothing else.
 //
 // The image is only read. The loop over the exchanges goes by stretches: where it is known what the devices leave the line at in the next
-// slots, the master takes the levels of all slots of a bit, or of the search command, at once, and then each device does. What is written and
-// stored between is a function by value over the buffers.
+// slots, the master takes the levels of all slots of a bit, or of the search command, at once, and then each device does; of a device that is
+// alone on the line it takes those of nearly all bits that are left. What is written and stored between is a function by value over the buffers.
 use device::LineState;
 use master::Answer;
 use master::CODE_BITS;

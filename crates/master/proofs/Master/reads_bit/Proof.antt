@@ -1,82 +1,17 @@
-use Rattle.master.specs.Bit.{readsBit, stageReadsBit}
-use borrow.Author.Tests.{le-ltb, lt-ltb}
+use Rattle.master.specs.Bit.{readsBit}
 use borrow.Author.Needs.{needs}
 use Rattle.master.proofs.Master.reads_bit.Statement.{statement}
 use Rattle.master.proofs.Master.reads_bit.Tie as tie
 
-enum-told : tie.Need-enum-told
-enum-told c = search needs
+reading-requires : tie.Need-reading-requires
+reading-requires c κs = search needs
 
-enum-told-2 : tie.Need-enum-told-2
-enum-told-2 c = search needs
-
-enum-told-3 : tie.Need-enum-told-3
-enum-told-3 c = search needs
-
-enum-known-stage : tie.Need-enum-known-stage
-enum-known-stage c = search needs
-
-sub-if1 : tie.Need-sub-if1
-sub-if1 c = search needs
-
-enum-told-4 : tie.Need-enum-told-4
-enum-told-4 c = search needs
-
-enum-told-5 : tie.Need-enum-told-5
-enum-told-5 c = search needs
-
-enum-told-6 : tie.Need-enum-told-6
-enum-told-6 c = search needs
+sub-result : tie.Need-sub-result
+sub-result c = search needs
 
 returns : tie.Need-returns
-unfolding readsBit stageReadsBit
-returns c = simp (c .enum-told .given .1)
-
-returns-2 : tie.Need-returns-2
-unfolding readsBit stageReadsBit
-returns-2 c = simp (c .enum-told2 .given .1)
-
-returns-3 : tie.Need-returns-3
-unfolding readsBit stageReadsBit
-returns-3 c = simp (c .enum-told3 .given .1)
-
-returns-4 : tie.Need-returns-4
-unfolding readsBit stageReadsBit
-returns-4 c = simp (lt-ltb _ _ (c .if1 .taken), c .before .before .stage .given .1)
-
-returns-5 : tie.Need-returns-5
-unfolding readsBit stageReadsBit
-returns-5 c = simp (le-ltb _ _ (c .if1 .left), c .before .before .stage .given .1)
-
-returns-6 : tie.Need-returns-6
-unfolding readsBit stageReadsBit
-returns-6 c = simp (c .enum-told4 .given .1)
-
-returns-7 : tie.Need-returns-7
-unfolding readsBit stageReadsBit
-returns-7 c = simp (c .enum-told5 .given .1)
-
-returns-8 : tie.Need-returns-8
-unfolding readsBit stageReadsBit
-returns-8 c = simp (c .enum-told6 .given .1)
+unfolding readsBit
+returns c = simp (c .reading .ensures)
 
 pub reads-bit-spec : {M : Type 1} → statement M
-reads-bit-spec =
-    tie.close
-    (tie.spec
-    enum-told
-    enum-told-2
-    enum-told-3
-    enum-known-stage
-    sub-if1
-    enum-told-4
-    enum-told-5
-    enum-told-6
-    returns
-    returns-2
-    returns-3
-    returns-4
-    returns-5
-    returns-6
-    returns-7
-    returns-8)
+reads-bit-spec = tie.close (tie.spec reading-requires sub-result returns)
