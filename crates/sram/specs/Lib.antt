@@ -1,3 +1,2 @@
 pub mod Body
 pub mod Sram
-pub mod Through
