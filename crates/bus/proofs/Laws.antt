@@ -17,9 +17,11 @@ use Rattle.image.specs.Refusal.{Cause, cause, firstOf, imageCauses, imageRefusa
 use Rattle.device.specs.declared.LineState.{LineState}
 use Rattle.bus.specs.Refusal.{someByte, badTrace, badPulse, noRunRoom, runCauses, runRefusal}
 use Rattle.bus.specs.declared.Place.{Place}
-use Rattle.bus.specs.Bus.{eventOf, nextBody}
-use Rattle.bus.specs.Loops.{placeIn, deviceAt, deviceIn, withBody, turnImage, lineAt, servedOf, BusState, turnAt, turns, filled, RunState, eventAt, events}
-use Rattle.bus.proofs.Runs.{next-length}
+use Rattle.device.proofs.Keeps.{slot-keeps, reset-keeps, program-keeps}
+use Rattle.bus.specs.declared.Event.{Event}
+use Rattle.bus.specs.declared.Event.the-variants.{Slot, Reset, Pulse}
+use Rattle.bus.specs.Bus.{Device, eventOf}
+use Rattle.bus.specs.Loops.{bodyAsItIs, idleIn, placeIn, deviceAt, deviceIn, withBody, turnImage, lineAt, servedOf, BusState, turnAt, turns, filled, RunState, eventAt, events}
 
 -- ---- the place of a body
 
@@ -148,13 +150,30 @@ unfolding withBody
 with-body-length image place body h e =
     simp (length-append, length-drop, length-take-le (place .start) image (omega (arith, h .rising, h .within)), e) (omega (arith, h .rising, h .within))
 
-turn-image-length : (image : List ℕ) (i : ℕ) (state : LineState) (byte : ℕ) (level : Bool) → length (turnImage image i state byte level) ≡ length image
-unfolding turnImage deviceIn deviceAt
-turn-image-length image i state byte level =
+body-kept : (event : Event) (level : Bool) (d : Device) → length (bodyAsItIs event level d) ≡ length (d .body)
+unfolding bodyAsItIs
+body-kept (Slot sent) level d = slot-keeps (d .state) (d .kind) (d .body) level .same-length
+body-kept Reset level d = reset-keeps (d .state) (d .body) .same-length
+body-kept Pulse level d = program-keeps (d .state) (d .body) .same-length
+
+put-length : (image : List ℕ) (i : ℕ) (state : LineState) (byte : ℕ) (level : Bool)
+    → length (withBody image (placeIn image i) (bodyAsItIs (eventOf byte) level (deviceIn image i state))) ≡ length image
+unfolding deviceIn deviceAt
+put-length image i state byte level =
     let h = place-inside image i in
-    with-body-length image (placeIn image i) (nextBody (eventOf byte) level (deviceIn image i state)) h
-    (next-length (eventOf byte) level (deviceIn image i state)
-    ∙ length-take-le (placeIn image i .end - placeIn image i .start) (drop (placeIn image i .start) image) (rw length-drop (omega (arith, h .rising, h .within))))
+    with-body-length image (placeIn image i) (bodyAsItIs (eventOf byte) level (deviceIn image i state)) h
+    (body-kept (eventOf byte) level (deviceIn image i state)
+    ∙ length-take-le (placeIn image i .end - placeIn image i .start) (drop (placeIn image i .start) image)
+    (rw length-drop (omega (arith, h .rising, h .within))))
+
+either-length : (b : Bool) (xs ys zs : List ℕ) → length xs ≡ length zs → length ys ≡ length zs → length (cond b xs ys) ≡ length zs
+either-length true xs ys zs h k = h
+either-length false xs ys zs h k = k
+
+turn-image-length : (image : List ℕ) (i : ℕ) (state : LineState) (byte : ℕ) (level : Bool)
+    → length (turnImage image i state byte level) ≡ length image
+unfolding turnImage
+turn-image-length image i state byte level = either-length (idleIn byte state) image _ image refl (put-length image i state byte level)
 
 pub turns-image-length : (byte : ℕ) (level : Bool) (i : ℕ) (s : BusState) → length (turns byte level i s .image) ≡ length (s .image)
 unfolding turns turnAt

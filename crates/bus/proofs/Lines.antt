@@ -20,29 +20,19 @@ use prog.Wp.{Heap}
 use ghost.Atoms.{Atoms}
 use types.Kit.{Given}
 use denote.RattleType.{RattleType}
-use denote.Laws.{Is, Tells, Copy}
+use denote.Laws.{Is, Tells, Lawful, Copy}
 use denote.Steps.{only}
 use denote.Struct.Laws as LL
+pub use Rattle.walks.proofs.Vars.{holds, fails, one-more}
+use Rattle.walks.proofs.Params.{Datum}
 use Rattle.device.specs.declared.LineState.{LineState}
 use Rattle.bits.specs.Bit.{levelByte}
 use Rattle.device.proofs.LineState as T
 use Rattle.device.proofs.LineState.Laws as T′
 
--- ---- truth values and numbers
-pub holds : (t : Bool) → Holds t → t ≡ true
-holds true _ = refl
-holds false a = absurd a
-
-pub fails : (t : Bool) → (Holds t → ⊥) → t ≡ false
-fails true f = absurd (f tt)
-fails false _ = refl
-
-pub one-more : (i : ℕ) → i + 1 ≡ suc i
-one-more i = add-suc i zero ∙ ap suc (add-zero i)
-
--- how many bytes a line state takes. It is the one number that the walks take from its layout: `rt mir` shows it, in `mul(_, 16u64)`
+-- how many bytes a line state takes. It is the one number that the walks take from its layout: `rt mir` shows it, in `mul(_, 8u64)`
 abbrev pub width : ℕ
-width = 16
+width = 8
 
 -- the place of an element that is there does not wrap, and neither does the next index
 pub fits-at : (i n : ℕ) → n * width < 2 ^ 63 → i < n → i * width < 2 ^ 64
@@ -89,5 +79,21 @@ module _ {M : Type 1} (𝓤 : URA M) (H : Heap 𝓤) (A : Atoms 𝓤) (W : Given
   pub typed : (l : LineState) (w : Val) → Is R l (w ∷ []) → Holds (hasTy T′.mir w) × WT w
   typed l w is = LL.lawful T.the-type T′.the-laws 𝓤 H A W .typed l (w ∷ []) is .0
 
+  pub lawfulR : Lawful 𝓤 H A R
+  lawfulR = LL.lawful T.the-type T′.the-laws 𝓤 H A W
+
   pub copyR : Copy 𝓤 H A R
   copyR = LL.copy T.the-type T′.the-copy 𝓤 H A W
+
+-- a line state, as plain data of a parameter or a result
+abbrev pub line : Datum
+line = record {
+  type = R;
+  ty = T′.mir;
+  mach = mach;
+  tells = tellsR;
+  silent = λ x f. refl;
+  lies = λ q x b o. refl;
+  makes = λ 𝓤 H A W. LL.makes T.the-type T′.the-plain 𝓤 H A;
+  typed = λ 𝓤 H A W x is. typed 𝓤 H A W x (mach x) is;
+}

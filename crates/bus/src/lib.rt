@@ -3,9 +3,8 @@
 // The image holds the devices' bodies, and a lent slice their line states. One device's part in an event is a function by value over the
 // image and its line state; the loops over all devices, over the trace, and the run above them only fetch, call and store.
 use device::LineState;
+use image::ACCEPTED;
 use kind::Kind;
-use line::RomStage;
-use line::Stage;
 ghost use mathlib.Core.Path.{_≡_};
 ghost use Prim.Native.Nat.{_≤_};
 ghost use mathlib.Core.Bool.{not, _&&_, _||_};
@@ -13,11 +12,13 @@ ghost use lib.ListN.{length};
 ghost use lib.Dec.{eqb, ltb};
 ghost use Rattle.image.specs.Image.{countOf, kindAt};
 ghost use Rattle.image.specs.Refusal.{someBelow};
-ghost use Rattle.bus.specs.Bus.{deviceWith, eventOf, nextState, nextBody};
-ghost use Rattle.bus.specs.Refusal.{someByte, badTrace, isEprom, badPulse, noRunRoom, runRefusal};
+ghost use Rattle.kind.specs.Kind.{isEprom};
+ghost use Rattle.bus.specs.Bus.{deviceWith, eventOf};
+ghost use Rattle.bus.specs.Refusal.{someByte, badTrace, badPulse, noRunRoom, runRefusal};
 ghost use Rattle.bus.specs.Run.{RunLeaves, runOf};
-ghost use Rattle.bus.specs.Loops.{isWaiting, waitsIn, idleIn, placeIn, deviceAt, deviceIn, masterLevel, deviceLevel, turnState, turnImage, servedOf, levelOn, statesAfter, busState, turns, filled, runState, events};
-ghost use Rattle.device.specs.Device.{waitingState};
+ghost use Rattle.bus.specs.Loops.{idleIn, insideIn, placeIn, stateAsItIs, bodyAsItIs, askedOf, levelWhere, turnState, turnImage, servedOf};
+ghost use Rattle.bus.specs.Loops.{levelOn, statesAfter, busState, turns, filled, runState, events};
+ghost use Rattle.device.specs.Device.{waitingState, sendsAsIs};
 
 // An event on the line: a slot in which the master sends a bit, a reset, or a program pulse.
 pub enum Event {
@@ -32,9 +33,6 @@ struct Place {
     start: usize,
     end: usize,
 }
-
-// The number of a run that is not refused.
-const ACCEPTED: u32 = 0;
 
 // The longest trace that is run.
 const MOST_EVENTS: usize = 32768;
@@ -53,44 +51,24 @@ fn event_of(byte: u8) -> Event
     }
 }
 
-// A ROM stage is the one of a device that waits.
-fn is_waiting(r: RomStage) -> bool
-    ensures { λ r′. ⌜ r′ ≡ isWaiting r ⌝ }
-{
-    match r {
-        RomStage::Waiting => true,
-        RomStage::Command { bits: _, value: _ } => false,
-        RomStage::Read { at: _ } => false,
-        RomStage::Match { at: _ } => false,
-        RomStage::Search { at: _, slot: _ } => false,
-    }
-}
-
-// A device waits for a reset.
-fn waits(state: LineState) -> bool
-    ensures { λ r. ⌜ r ≡ waitsIn (state .stage) ⌝ }
-{
-    let stage = state.stage;
-    match stage {
-        Stage::Rom(r) => is_waiting(r),
-        Stage::Memory(_) => false,
-    }
-}
-
 // A device that waits has no part in a slot: it is passed over before its place is looked for.
 fn is_idle(byte: u8, state: LineState) -> bool
     ensures { λ r. ⌜ r ≡ idleIn byte state ⌝ }
 {
     if byte < 2 {
-        return waits(state);
+        return state.waits();
     }
     false
 }
 
-fn wide(byte: u8) -> usize
-    ensures { λ r. ⌜ r ≡ byte ⌝ }
+// Inside a transfer a slot only shifts a device's register: its body has no part in it, and is not looked for.
+fn is_inside(byte: u8, state: LineState) -> bool
+    ensures { λ r. ⌜ r ≡ insideIn byte state ⌝ }
 {
-    byte as usize
+    if byte < 2 {
+        return state.goes_on();
+    }
+    false
 }
 
 // The place of device i, found from its entry: that costs a constant. A device that the image does not have, or has no room for, has an
@@ -98,7 +76,7 @@ fn wide(byte: u8) -> usize
 fn place_of(image: &[u8], i: usize) -> Place
     ensures { λ r. ⌜ r ≡ placeIn (now (image .entry)) i ⌝ }
 {
-    if i < wide(image::count(image)) {
+    if i < bits::wide(image::count(image)) {
         let entry = image::entry_at(image, i as u8);
         let kind = entry.kind;
         let start = entry.start;
@@ -114,62 +92,53 @@ fn place_of(image: &[u8], i: usize) -> Place
     }
 }
 
-// The level at which the master leaves the line.
-fn master_level(byte: u8) -> bool
-    ensures { λ r. ⌜ r ≡ masterLevel (eventOf byte) ⌝ }
+// How many of n devices are asked for the level of an event: all of them in a slot in which the master sends 1. Any other level does not
+// depend on what they send.
+fn asked(byte: u8, n: usize) -> usize
+    ensures { λ r. ⌜ r ≡ askedOf byte n ⌝ }
+{
+    if byte == 1 { n } else { 0 }
+}
+
+// Whether the line is high in a slot with one device more on it.
+fn high_with(high: bool, state: LineState) -> bool
+    ensures { λ r. ⌜ r ≡ (high && sendsAsIs state) ⌝ }
+{
+    high & state.sends_as_is()
+}
+
+// The level of an event on n devices; `high` says whether those that were asked leave the line high.
+fn level_of(byte: u8, n: usize, high: bool) -> bool
+    ensures { λ r. ⌜ r ≡ levelWhere (eventOf byte) n high ⌝ }
 {
     match event_of(byte) {
-        Event::Slot(sent) => sent,
-        Event::Reset => true,
+        Event::Slot(sent) => sent & high,
+        Event::Reset => n == 0,
         Event::Pulse => true,
     }
 }
 
-// The level at which a device leaves the line: in a slot what it sends, at a reset the 0 of its presence.
-fn device_level(byte: u8, state: LineState, kind: Kind, body: &[u8]) -> bool
-    ensures { λ r. ⌜ r ≡ deviceLevel (eventOf byte) (deviceWith kind (now (body .entry)) state) ⌝ }
-{
-    match event_of(byte) {
-        Event::Slot(_) => state.sends(kind, body),
-        Event::Reset => false,
-        Event::Pulse => true,
-    }
-}
-
-// The level of the line with device i on it as well. Where it is low already the device is not asked.
-fn level_with(image: &[u8], i: usize, state: LineState, byte: u8, level: bool) -> bool
-    ensures { λ r. ⌜ r ≡ (level && deviceLevel (eventOf byte) (deviceIn (now (image .entry)) i state)) ⌝ }
-{
-    if !level {
-        return false;
-    }
-    if is_idle(byte, state) {
-        return true;
-    }
-    let place = place_of(image, i);
-    let kind = place.kind;
-    let start = place.start;
-    let end = place.end;
-    device_level(byte, state, kind, &image[start..end])
-}
-
-// What an event at a level makes of a device's line state. The body is only read.
+// What an event at a level makes of a device's line state. The body is only read. A run's line states are in range from the first event on
+// (proofs/Ranges.antt), so that they are taken as they are.
 fn device_state(byte: u8, level: bool, state: LineState, kind: Kind, body: &[u8]) -> LineState
-    ensures { λ r. ⌜ r ≡ nextState (eventOf byte) level (deviceWith kind (now (body .entry)) state) ⌝ }
+    ensures { λ r. ⌜ r ≡ stateAsItIs (eventOf byte) level (deviceWith kind (now (body .entry)) state) ⌝ }
 {
     match event_of(byte) {
-        Event::Slot(_) => state.step(kind, body, level),
+        Event::Slot(_) => state.step_as_is(kind, body, level),
         Event::Reset => LineState::at_reset(),
-        Event::Pulse => state.pulsed(kind, body),
+        Event::Pulse => state.pulsed_as_is(body),
     }
 }
 
-// The same of device i, in the image.
+// Device i's next line state, with its body found in the image.
 fn state_after(image: &[u8], i: usize, state: LineState, byte: u8, level: bool) -> LineState
     ensures { λ r. ⌜ r ≡ turnState (now (image .entry)) i state byte level ⌝ }
 {
     if is_idle(byte, state) {
         return state;
+    }
+    if is_inside(byte, state) {
+        return state.shifted(level);
     }
     let place = place_of(image, i);
     let kind = place.kind;
@@ -180,25 +149,28 @@ fn state_after(image: &[u8], i: usize, state: LineState, byte: u8, level: bool) 
 
 // What an event at a level makes of a device: its next line state, and its body. In a slot the device is given the level of the line.
 fn device_next(byte: u8, level: bool, state: LineState, kind: Kind, body: &mut [u8]) -> LineState
-    ensures { λ r. ⌜ (r ≡ nextState (eventOf byte) level (deviceWith kind (now (body .entry)) state)) × (now (body .exit) ≡ nextBody (eventOf byte) level (deviceWith kind (now (body .entry)) state)) ⌝ }
+    ensures { λ r. ⌜ (r ≡ stateAsItIs (eventOf byte) level (deviceWith kind (now (body .entry)) state)) × (now (body .exit) ≡ bodyAsItIs (eventOf byte) level (deviceWith kind (now (body .entry)) state)) ⌝ }
 {
     match event_of(byte) {
         Event::Slot(_) => {
-            let next = state.step(kind, body, level);
-            state.write(kind, body, level);
+            let next = state.step_as_is(kind, body, level);
+            state.write_as_is(kind, body, level);
             next
         }
-        Event::Reset => state.reset(kind, body),
-        Event::Pulse => state.pulse(kind, body),
+        Event::Reset => state.reset_as_is(body),
+        Event::Pulse => state.pulse_as_is(body),
     }
 }
 
-// The same of device i, in the image.
+// Device i's part in an event, with its body found in the image.
 fn turn(image: &mut [u8], i: usize, state: LineState, byte: u8, level: bool) -> LineState
     ensures { λ r. ⌜ (r ≡ turnState (now (image .entry)) i state byte level) × (now (image .exit) ≡ turnImage (now (image .entry)) i state byte level) ⌝ }
 {
     if is_idle(byte, state) {
         return state;
+    }
+    if is_inside(byte, state) {
+        return state.shifted(level);
     }
     let place = place_of(image, i);
     let kind = place.kind;
@@ -211,7 +183,7 @@ fn turn(image: &mut [u8], i: usize, state: LineState, byte: u8, level: bool) -> 
 fn served(image: &[u8], lines: usize) -> usize
     ensures { λ r. ⌜ r ≡ servedOf (now (image .entry)) lines ⌝ }
 {
-    let n = wide(image::count(image));
+    let n = bits::wide(image::count(image));
     if lines < n {
         return lines;
     }
@@ -262,16 +234,6 @@ fn has_pulse(trace: &[u8]) -> bool
     found
 }
 
-fn is_eprom(kind: Kind) -> bool
-    ensures { λ r. ⌜ r ≡ isEprom kind ⌝ }
-{
-    match kind {
-        Kind::Sram { size: _ } => false,
-        Kind::Eprom => true,
-        Kind::Unknown => false,
-    }
-}
-
 // Some device is not a DS1982.
 fn has_other_kind(image: &[u8]) -> bool
     ensures { λ r. ⌜ r ≡ someBelow (countOf (now (image .entry))) (λ i. not (isEprom (kindAt (now (image .entry)) i))) ⌝ }
@@ -281,7 +243,7 @@ fn has_other_kind(image: &[u8]) -> bool
     while i < n {
         let entry = image::entry_at(image, i);
         let kind = entry.kind;
-        if !is_eprom(kind) {
+        if !kind::is_eprom(kind) {
             return true;
         }
         i += 1;
@@ -306,7 +268,7 @@ fn lacks_room(image: &[u8], trace: &[u8], answers: usize, lines: usize) -> bool
     if answers < trace.len() {
         return true;
     }
-    lines < wide(image::count(image))
+    lines < bits::wide(image::count(image))
 }
 
 // Why a run is refused, 1 to 7; 0 where it is not.
@@ -331,19 +293,20 @@ fn refusal(image: &[u8], trace: &[u8], answers: usize, lines: usize) -> u32
 
 // ---- all devices
 
-// The level of an event, of any image and any line states. It reads only.
+// The level of an event, of any image and any line states, which are taken as they are. It reads only.
 pub fn level(image: &[u8], lines: &[LineState], byte: u8) -> bool
     ensures { λ r. ⌜ r ≡ levelOn (now (image .entry)) (now (lines .entry)) byte ⌝ }
 {
     let n = served(image, lines.len());
-    let mut level = master_level(byte);
+    let asked = asked(byte, n);
+    let mut high = true;
     let mut i: usize = 0;
-    while i < n {
+    while i < asked {
         let state = lines[i];
-        level = level_with(image, i, state, byte, level);
+        high = high_with(high, state);
         i = i + 1;
     }
-    level
+    level_of(byte, n, high)
 }
 
 // The line states after an event at a level, of any image and any line states. The image is only read.

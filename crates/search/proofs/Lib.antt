@@ -1,4 +1,4 @@
 pub mod Counts
 pub mod Loop
 pub mod Shown
-pub mod Steps
+pub mod Shapes

@@ -1,4 +1,4 @@
-use Rattle.bus.specs.Refusal.{isEprom}
+use Rattle.kind.specs.Kind.{isEprom}
 use Rattle.image.proofs.Laws.{some-at, some-more}
 use Rattle.image.specs.Refusal.{someBelow}
 use Rattle.image.specs.Image.{entryOf, kindAt, countOf}

@@ -1,5 +1,5 @@
-use mathlib.Core.Path.{sym, _∙_}
-use Rattle.bus.proofs.Idle.{idle-state}
+use mathlib.Core.Path.{refl, sym, _∙_}
+use Rattle.bus.proofs.Idle.{inside-state}
 use Rattle.bus.proofs.Laws.{place-inside}
 use Rattle.bus.specs.Loops.{deviceAt, deviceIn, turnState}
 use borrow.Author.Needs.{needs}
@@ -10,10 +10,22 @@ is-idle-requires : tie.Need-is-idle-requires
 is-idle-requires c κs = search needs
 
 returns : tie.Need-returns
-returns c =
-    let a = c .before .before .before .args in
-    let idle = sym (c .before .is-idle .ensures) ∙ c .if1 .taken in
-    idle-state (a .byte) (a .state) idle (a .image .now) (a .i) (a .level)
+unfolding turnState
+returns c = rw (sym (c .before .is-idle .ensures) ∙ c .if1 .taken)
+
+is-inside-requires : tie.Need-is-inside-requires
+is-inside-requires c κs = search needs
+
+shifted-requires : tie.Need-shifted-requires
+shifted-requires c κs = search needs
+
+returns-2 : tie.Need-returns-2
+unfolding turnState
+returns-2 c =
+    let a = c .before .before .before .before .before .before .args in
+    let awake = sym (c .before .before .before .before .is-idle .ensures) ∙ c .before .before .before .if1 .left in
+    let inside = sym (c .before .before .is-inside .ensures) ∙ c .before .if2 .taken in
+    rw awake (c .shifted .ensures ∙ inside-state (a .byte) (a .state) inside (a .image .now) (a .i) (a .level))
 
 place-of-requires : tie.Need-place-of-requires
 place-of-requires c κs = search needs
@@ -30,9 +42,11 @@ part-device-state-end c = rw (c .place-of .ensures) (place-inside _ _ .within)
 device-state-requires : tie.Need-device-state-requires
 device-state-requires c κs = search needs
 
-returns-2 : tie.Need-returns-2
+returns-3 : tie.Need-returns-3
 unfolding turnState deviceIn deviceAt
-returns-2 c = rw (← c .before .before .place-of .ensures) (c .device-state .ensures)
+returns-3 c =
+    let awake = sym (c .before .before .before .before .before .before .is-idle .ensures) ∙ c .before .before .before .before .before .if1 .left in
+    rw (awake, ← c .before .before .place-of .ensures) (c .device-state .ensures)
 
 pub state-after-spec : {M : Type 1} → statement M
 state-after-spec =
@@ -40,9 +54,12 @@ state-after-spec =
     (tie.spec
     is-idle-requires
     returns
+    is-inside-requires
+    shifted-requires
+    returns-2
     place-of-requires
     sub-device-state
     part-device-state-start
     part-device-state-end
     device-state-requires
-    returns-2)
+    returns-3)

@@ -9,8 +9,8 @@ enum-told c = search needs
 enum-known-m : tie.Need-enum-known-m
 enum-known-m c = search needs
 
-size-of-requires : tie.Need-size-of-requires
-size-of-requires c κs = search needs
+memory-size-requires : tie.Need-memory-size-requires
+memory-size-requires c κs = search needs
 
 write-requires : tie.Need-write-requires
 write-requires c κs = search needs
@@ -27,7 +27,7 @@ same-length c = search needs
 
 returns-2 : tie.Need-returns-2
 unfolding memoryWrite
-returns-2 c = simp (c .before .before .write .ensures, c .before .before .before .before .size-of .ensures, c .before .before .before .before .before .before .m .given .1)
+returns-2 c = simp (c .before .before .write .ensures, c .before .before .before .before .memory-size .ensures, c .before .before .before .before .before .before .m .given .1)
 
 returns-3 : tie.Need-returns-3
 unfolding memoryWrite
@@ -39,7 +39,7 @@ memory-write-spec =
     (tie.spec
     enum-told
     enum-known-m
-    size-of-requires
+    memory-size-requires
     write-requires
     enum-told-2
     returns

@@ -21,14 +21,20 @@ enum-told-5 c = search needs
 enum-told-6 : tie.Need-enum-told-6
 enum-told-6 c = search needs
 
+enum-told-7 : tie.Need-enum-told-7
+enum-told-7 c = search needs
+
+enum-told-8 : tie.Need-enum-told-8
+enum-told-8 c = search needs
+
 enum-known-e : tie.Need-enum-known-e
 enum-known-e c = search needs
 
 program-byte-requires : tie.Need-program-byte-requires
 program-byte-requires c κs = search needs
 
-enum-told-7 : tie.Need-enum-told-7
-enum-told-7 c = search needs
+enum-told-9 : tie.Need-enum-told-9
+enum-told-9 c = search needs
 
 returns : tie.Need-returns
 unfolding epromProgram
@@ -54,16 +60,24 @@ returns-6 : tie.Need-returns-6
 unfolding epromProgram
 returns-6 c = simp (c .enum-told6 .given .1)
 
-same-length : tie.Need-same-length
-same-length c = search needs
-
 returns-7 : tie.Need-returns-7
 unfolding epromProgram
-returns-7 c = simp (c .before .before .program-byte .ensures, c .before .before .before .before .before .e .given .1)
+returns-7 c = simp (c .enum-told7 .given .1)
 
 returns-8 : tie.Need-returns-8
 unfolding epromProgram
-returns-8 c = simp (c .enum-told7 .given .1)
+returns-8 c = simp (c .enum-told8 .given .1)
+
+same-length : tie.Need-same-length
+same-length c = search needs
+
+returns-9 : tie.Need-returns-9
+unfolding epromProgram
+returns-9 c = simp (c .before .before .program-byte .ensures, c .before .before .before .before .before .e .given .1)
+
+returns-10 : tie.Need-returns-10
+unfolding epromProgram
+returns-10 c = simp (c .enum-told9 .given .1)
 
 pub program-spec : {M : Type 1} → statement M
 program-spec =
@@ -75,15 +89,19 @@ program-spec =
     enum-told-4
     enum-told-5
     enum-told-6
+    enum-told-7
+    enum-told-8
     enum-known-e
     program-byte-requires
-    enum-told-7
+    enum-told-9
     returns
     returns-2
     returns-3
     returns-4
     returns-5
     returns-6
-    same-length
     returns-7
-    returns-8)
+    returns-8
+    same-length
+    returns-9
+    returns-10)

@@ -2,7 +2,7 @@ use Rattle.image.specs.Image.{countOf}
 use Prim.Native.Nat.{ℕ}
 use mathlib.Core.Bool.{Bool, true}
 use mathlib.Core.Path.{sym, ap, _∙_}
-use Rattle.image.specs.Refusal.{malformed, unknown}
+use Rattle.image.specs.Refusal.{malformed}
 use borrow.Author.Needs.{needs}
 use mathlib.Core.Path.{refl}
 use native.Mathlib.Omega.{arith}
@@ -24,7 +24,7 @@ count-requires : tie.Need-count-requires Inv-loop μ-loop
 count-requires c κs = search needs
 
 loop-holds : tie.Need-loop-holds Inv-loop μ-loop
-unfolding someBelow entryMalformed malformed unknown
+unfolding someBelow entryMalformed malformed
 loop-holds c = (omega arith, refl)
 
 is-entry-malformed-requires : tie.Need-is-entry-malformed-requires Inv-loop μ-loop

@@ -50,9 +50,9 @@ use Rattle.image.specs.Image.{countOf}
 use Rattle.device.specs.declared.LineState.{LineState}
 use Rattle.master.specs.Drive.{over}
 use Rattle.bus.specs.Run.{statesOf}
-use Rattle.bus.proofs.Again.{LentAgain, SharedAgain, lends-kept, back-kept, shares-kept, shared-back}
+use Rattle.walks.proofs.Again.{LentAgain, SharedAgain, lends-kept, back-kept, shares-kept, shared-back}
 use Rattle.bus.proofs.Lines.{R, unit-typed}
-use Rattle.bus.proofs.Parts.{then-of, rest-of}
+use Rattle.walks.proofs.Parts.{then-of, rest-of}
 use Rattle.discovery.specs.Search.{searchOf}
 use Rattle.discovery.specs.Searched.{Searched}
 use Rattle.discovery.specs.Words.{Bytes}

@@ -1,4 +1,4 @@
-use Rattle.sram.specs.Body.{beginByte}
+use Rattle.sram.specs.Sram.{beginByte}
 use borrow.Author.Tests.{eq-eqb, ne-eqb}
 use borrow.Author.Needs.{needs}
 use Rattle.sram.proofs.begin_byte.Statement.{statement}
@@ -9,9 +9,6 @@ byte-at-requires c κs = search needs
 
 mul-put-byte : tie.Need-mul-put-byte
 mul-put-byte c = search needs
-
-cast-put-byte : tie.Need-cast-put-byte
-cast-put-byte c = search needs
 
 add-put-byte : tie.Need-add-put-byte
 add-put-byte c = search needs
@@ -36,7 +33,6 @@ begin-byte-spec =
     (tie.spec
     byte-at-requires
     mul-put-byte
-    cast-put-byte
     add-put-byte
     put-byte-requires
     same-length

@@ -7,20 +7,15 @@ use Rattle.device.proofs.LineState.pulse.Tie as tie
 taken-requires : tie.Need-taken-requires
 taken-requires c κs = search needs
 
-stage-program-requires : tie.Need-stage-program-requires
-stage-program-requires c κs = search needs
-
-stage-pulse-requires : tie.Need-stage-pulse-requires
-stage-pulse-requires c κs = search needs
+pulse-as-is-requires : tie.Need-pulse-as-is-requires
+pulse-as-is-requires c κs = search needs
 
 same-length : tie.Need-same-length
 same-length c = search needs
 
 returns : tie.Need-returns
 unfolding stateAfterPulse bodyAfterPulse
-returns c = simp (c .stage-pulse .ensures, c .before .before .before .stage-program .ensures, c .before .before .before .before .before .taken .ensures) (refl, refl)
+returns c = simp (c .before .before .pulse-as-is .ensures .0, c .before .before .pulse-as-is .ensures .1, c .before .before .before .before .taken .ensures) (refl, refl)
 
 pub pulse-spec : {M : Type 1} → statement M
-pulse-spec =
-    tie.close
-    (tie.spec taken-requires stage-program-requires stage-pulse-requires same-length returns)
+pulse-spec = tie.close (tie.spec taken-requires pulse-as-is-requires same-length returns)

@@ -1,0 +1,44 @@
+use native.Mathlib.Omega.{arith}
+use Rattle.eprom.specs.Writes.{writeLatch}
+use Rattle.eprom.proofs.Laws.{cut-fits}
+use borrow.Author.Needs.{needs}
+use Rattle.eprom.proofs.writes.write_latch.Statement.{statement}
+use Rattle.eprom.proofs.writes.write_latch.Tie as tie
+
+cut-requires : tie.Need-cut-requires
+cut-requires c κs = search needs
+
+write-command-requires : tie.Need-write-command-requires
+write-command-requires c κs = search needs
+
+command-crc-requires : tie.Need-command-crc-requires
+command-crc-requires c κs = search needs
+
+cast-write-data : tie.Need-cast-write-data
+cast-write-data c =
+    let a = c .before .before .before .args in
+    omega (arith, cut-fits (a .field) (a .address))
+
+write-data-requires : tie.Need-write-data-requires
+write-data-requires c κs = search needs
+
+returns : tie.Need-returns
+unfolding writeLatch
+returns c =
+    simp (
+      c .write-data .ensures,
+      c .before .command-crc .ensures,
+      c .before .before .write-command .ensures,
+      c .before .before .before .cut .ensures,
+    )
+
+pub write-latch-spec : {M : Type 1} → statement M
+write-latch-spec =
+    tie.close
+    (tie.spec
+    cut-requires
+    write-command-requires
+    command-crc-requires
+    cast-write-data
+    write-data-requires
+    returns)
