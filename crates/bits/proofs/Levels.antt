@@ -1,5 +1,5 @@
 -- Laws of levels that come into a register, and of those that it sends. Assumes nothing.
-use Prim.Native.Nat.{ℕ, zero, suc, _+_, _-_, _*_, _/_, _%_, _^_, _<_, _≤_}
+use Prim.Native.Nat.{ℕ, zero, suc, _+_, _-_, _*_, _/_, _%_, _^_, _<_}
 use mathlib.Core.Path.{_≡_, refl, sym, ap, _∙_}
 use mathlib.Core.Bool.{Bool, true, false}
 use mathlib.Core.List.{List, [], _∷_, _++_}
@@ -37,8 +37,8 @@ spells r small a b c d e f g h =
     let e3 : r3 ≡ r / 8 + 32 * levelByte a + 64 * levelByte b + 128 * levelByte c = omega (arith, e2, enters r2 c) in
     let e4 : r4 ≡ r / 16 + 16 * levelByte a + 32 * levelByte b + 64 * levelByte c + 128 * levelByte d =
     omega (arith, e3, enters r3 d) in
-    let e5 : r5 ≡ r / 32 + 8 * levelByte a + 16 * levelByte b + 32 * levelByte c + 64 * levelByte d + 128 * levelByte e =
-    omega (arith, e4, enters r4 e) in
+    let e5 : r5 ≡ r / 32 + 8 * levelByte a + 16 * levelByte b + 32 * levelByte c + 64 * levelByte d
+    + 128 * levelByte e = omega (arith, e4, enters r4 e) in
     let e6 : r6 ≡ r / 64 + 4 * levelByte a + 8 * levelByte b + 16 * levelByte c + 32 * levelByte d + 64 * levelByte e
     + 128 * levelByte f = omega (arith, e5, enters r5 f) in
     let e7 : r7 ≡ r / 128 + 2 * levelByte a + 4 * levelByte b + 8 * levelByte c + 16 * levelByte d + 32 * levelByte e
@@ -88,7 +88,8 @@ moves : (register : ℕ) (level : Bool) (i : ℕ) → i < 7 → shiftIn register
 moves register level i h =
     below-eight (λ i. i < 7 → shiftIn register level / 2 ^ i % 2 ≡ register / 2 ^ suc i % 2)
     (λ h. omega (arith, e)) (λ h. omega (arith, e)) (λ h. omega (arith, e)) (λ h. omega (arith, e))
-    (λ h. omega (arith, e)) (λ h. omega (arith, e)) (λ h. omega (arith, e)) (λ h. absurd (omega arith)) i (omega arith) h
+    (λ h. omega (arith, e)) (λ h. omega (arith, e)) (λ h. omega (arith, e)) (λ h. absurd (omega arith))
+    i (omega arith) h
   where
     e : shiftIn register level ≡ register / 2 + 128 * levelByte level
     e = enters register level

@@ -1,5 +1,5 @@
--- Document 01, 'ROM stage': bits go least significant first. Bytes as levels of the line, and levels as bytes: the words
--- in which laws speak of several slots.
+-- Document 01, 'ROM stage': bits go least significant first. Bytes as levels of the line, and levels as bytes: the
+-- words in which laws speak of several slots.
 use Prim.Native.Nat.{ℕ, zero, suc, _+_, _*_, _/_}
 use mathlib.Core.Bool.{Bool}
 use mathlib.Core.List.{List, [], _∷_, _++_}

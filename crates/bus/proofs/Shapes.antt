@@ -1,4 +1,5 @@
--- The signatures of the functions over all devices, and of those that they call, as shapes: a walk cites its own and those of its callees.
+-- The signatures of the functions over all devices, and of those that they call, as shapes: a walk cites its own and
+-- those of its callees.
 -- A parameter that is dropped, added or of another kind is changed here, once, and in the walks' lists of arguments.
 use mathlib.Core.List.{[], _∷_}
 use package.mir.Syntax.{w8, w32, w64}
@@ -20,34 +21,93 @@ abbrev pub high-with-shape : Shape
 high-with-shape = record { lifetimes = 0; outlives = []; kinds = dataK truth ∷ dataK line ∷ []; gives = truth }
 
 abbrev pub level-of-shape : Shape
-level-of-shape = record { lifetimes = 0; outlives = []; kinds = dataK (num w8) ∷ dataK (num w64) ∷ dataK truth ∷ []; gives = truth }
+level-of-shape = record {
+  lifetimes = 0;
+  outlives = [];
+  kinds = dataK (num w8) ∷ dataK (num w64) ∷ dataK truth ∷ [];
+  gives = truth;
+}
 
 abbrev pub state-after-shape : Shape
-state-after-shape = record { lifetimes = 1; outlives = []; kinds = shrK 0 tt u8 ∷ dataK (num w64) ∷ dataK line ∷ dataK (num w8) ∷ dataK truth ∷ []; gives = line }
+state-after-shape = record {
+  lifetimes = 1;
+  outlives = [];
+  kinds = shrK 0 tt u8 ∷ dataK (num w64) ∷ dataK line
+      ∷ dataK (num w8) ∷ dataK truth ∷ [];
+  gives = line;
+}
 
 abbrev pub turn-shape : Shape
-turn-shape = record { lifetimes = 1; outlives = []; kinds = mutK 0 tt u8 ∷ dataK (num w64) ∷ dataK line ∷ dataK (num w8) ∷ dataK truth ∷ []; gives = line }
+turn-shape = record {
+  lifetimes = 1;
+  outlives = [];
+  kinds = mutK 0 tt u8 ∷ dataK (num w64) ∷ dataK line ∷ dataK (num w8)
+      ∷ dataK truth ∷ [];
+  gives = line;
+}
 
 abbrev pub refusal-shape : Shape
-refusal-shape = record { lifetimes = 2; outlives = []; kinds = shrK 0 tt u8 ∷ shrK 1 tt u8 ∷ dataK (num w64) ∷ dataK (num w64) ∷ []; gives = num w32 }
+refusal-shape = record {
+  lifetimes = 2;
+  outlives = [];
+  kinds = shrK 0 tt u8 ∷ shrK 1 tt u8 ∷ dataK (num w64)
+      ∷ dataK (num w64) ∷ [];
+  gives = num w32;
+}
 
 abbrev pub level-shape : Shape
-level-shape = record { lifetimes = 2; outlives = []; kinds = shrK 0 tt u8 ∷ shrK 1 tt R ∷ dataK (num w8) ∷ []; gives = truth }
+level-shape = record {
+  lifetimes = 2;
+  outlives = [];
+  kinds = shrK 0 tt u8 ∷ shrK 1 tt R ∷ dataK (num w8)
+      ∷ [];
+  gives = truth;
+}
 
 abbrev pub step-all-shape : Shape
-step-all-shape = record { lifetimes = 2; outlives = []; kinds = shrK 0 tt u8 ∷ mutK 1 tt R ∷ dataK (num w8) ∷ dataK truth ∷ []; gives = nil }
+step-all-shape = record {
+  lifetimes = 2;
+  outlives = [];
+  kinds = shrK 0 tt u8 ∷ mutK 1 tt R ∷ dataK (num w8)
+      ∷ dataK truth ∷ [];
+  gives = nil;
+}
 
 abbrev pub turn-all-shape : Shape
-turn-all-shape = record { lifetimes = 2; outlives = []; kinds = mutK 0 tt u8 ∷ mutK 1 tt R ∷ dataK (num w64) ∷ dataK (num w8) ∷ dataK truth ∷ []; gives = nil }
+turn-all-shape = record {
+  lifetimes = 2;
+  outlives = [];
+  kinds = mutK 0 tt u8 ∷ mutK 1 tt R ∷ dataK (num w64)
+      ∷ dataK (num w8) ∷ dataK truth ∷ [];
+  gives = nil;
+}
 
 abbrev pub fill-shape : Shape
-fill-shape = record { lifetimes = 1; outlives = []; kinds = mutK 0 tt R ∷ dataK (num w64) ∷ dataK line ∷ []; gives = nil }
+fill-shape = record {
+  lifetimes = 1;
+  outlives = [];
+  kinds = mutK 0 tt R ∷ dataK (num w64) ∷ dataK line
+      ∷ [];
+  gives = nil;
+}
 
 abbrev pub wait-all-shape : Shape
 wait-all-shape = record { lifetimes = 2; outlives = []; kinds = shrK 0 tt u8 ∷ mutK 1 tt R ∷ []; gives = nil }
 
 abbrev pub run-events-shape : Shape
-run-events-shape = record { lifetimes = 4; outlives = []; kinds = mutK 0 tt u8 ∷ shrK 1 tt u8 ∷ mutK 2 tt u8 ∷ mutK 3 tt R ∷ dataK (num w64) ∷ []; gives = nil }
+run-events-shape = record {
+  lifetimes = 4;
+  outlives = [];
+  kinds = mutK 0 tt u8 ∷ shrK 1 tt u8 ∷ mutK 2 tt u8
+      ∷ mutK 3 tt R ∷ dataK (num w64) ∷ [];
+  gives = nil;
+}
 
 abbrev pub run-shape : Shape
-run-shape = record { lifetimes = 4; outlives = []; kinds = mutK 0 tt u8 ∷ shrK 1 tt u8 ∷ mutK 2 tt u8 ∷ mutK 3 tt R ∷ []; gives = num w32 }
+run-shape = record {
+  lifetimes = 4;
+  outlives = [];
+  kinds = mutK 0 tt u8 ∷ shrK 1 tt u8 ∷ mutK 2 tt u8 ∷ mutK 3 tt R
+      ∷ [];
+  gives = num w32;
+}

@@ -1,25 +1,20 @@
 -- Laws of one device for the layers above: what nothing on the line changes, and a device that waits, that is in the
 -- middle of a transfer, and that is in a ROM stage. Assumes nothing.
 use Prim.Native.Nat.{ℕ}
-use mathlib.Core.Path.{_≡_, refl, sym, ap, _∙_}
+use mathlib.Core.Path.{_≡_, refl, ap, _∙_}
 use mathlib.Core.Bool.{Bool, true, false, cond}
 use mathlib.Core.List.{List}
-use native.Mathlib.Omega.{arith}
 use lib.ListN.{length, take}
-use lib.Dec.{eqb, ltb, leb}
-use borrow.Author.Tests.{eqb-true, ltb-true}
 use Rattle.bits.specs.Bit.{bitOf}
 use Rattle.kind.specs.declared.Kind.{Kind}
-use Rattle.kind.specs.Kind.{codeLength, bodySize}
+use Rattle.kind.specs.Kind.{codeLength}
 use Rattle.line.specs.declared.RomStage.{RomStage}
-use Rattle.line.specs.declared.Stage.{Stage}
-use Rattle.line.specs.declared.Stage.the-variants.{Rom, Memory}
-use Rattle.line.specs.declared.Transfer.{Transfer}
-use Rattle.line.specs.Transfers.{waiting, sends, goesOn, shifted}
-use Rattle.rom.specs.Rom.{addressed, romNext, romRange}
+use Rattle.line.specs.declared.Stage.the-variants.{Rom}
+use Rattle.line.specs.Transfers.{sends, goesOn, shifted}
+use Rattle.rom.specs.Rom.{addressed, romNext}
 use Rattle.device.specs.declared.LineState.{LineState}
 use Rattle.device.specs.Device.{stageNext, stageWrite, memoryReset, stageReset, stagePulse, stageProgram}
-use Rattle.device.specs.Device.{lineState, waitingState, resetState, waits, sendsAsIs, afterSlot, stateAsIs, bodyAsIs}
+use Rattle.device.specs.Device.{lineState, waitingState, sendsAsIs, afterSlot, stateAsIs, bodyAsIs}
 use Rattle.device.specs.Device.{resetAsIs, pulseAsIs, programAsIs, inRange, taken, sendsOf, stateAfterSlot}
 use Rattle.device.specs.Device.{bodyAfterSlot, bodyAfterReset, stateAfterPulse, bodyAfterPulse}
 use Rattle.device.proofs.Keeps.{slot-keeps, reset-keeps, program-keeps, rom-slot-as-is, rom-reset-as-is}
@@ -128,7 +123,8 @@ module _ (state : LineState) (kind : Kind) (body : List ℕ) (level : Bool) (mor
 
 -- ---- a ROM stage changes no body
 
-module _ (state : LineState) (r : RomStage) (in-rom : state .transfer .stage ≡ Rom r) (kind : Kind) (body : List ℕ) where
+module _ (state : LineState) (r : RomStage) (in-rom : state .transfer .stage ≡ Rom r)
+    (kind : Kind) (body : List ℕ) where
   -- what holds of the line state and of one that waits holds of it as it is taken
   as-taken : (P : LineState → Type 0) → P state → P waitingState → P (taken state kind body)
   unfolding taken

@@ -2,7 +2,7 @@
 -- again. Assumes nothing.
 use Prim.Native.Nat.{ℕ, _-_}
 use mathlib.Core.Path.{_≡_, refl, ap}
-use mathlib.Core.Bool.{Bool, true, false, cond, _&&_}
+use mathlib.Core.Bool.{Bool, true, false, cond}
 use mathlib.Core.List.{List}
 use lib.ListN.{length}
 use lib.Dec.{ltb, eqb}
@@ -26,7 +26,8 @@ use Rattle.eprom.specs.Eprom.{epromRange}
 use Rattle.eprom.proofs.Range as eprom
 use Rattle.device.specs.declared.LineState.{LineState}
 use Rattle.device.specs.Device.{memoryCommand, memoryNext, stageNext, memoryPulse, stagePulse, afterSlot}
-use Rattle.device.specs.Device.{lineState, waitingState, resetState, waits, sendsAsIs, stateAsIs, bodyAsIs, resetAsIs, pulseAsIs}
+use Rattle.device.specs.Device.{lineState, waitingState, resetState, waits, sendsAsIs, stateAsIs, bodyAsIs}
+use Rattle.device.specs.Device.{resetAsIs, pulseAsIs}
 use Rattle.device.specs.Device.{programAsIs, memoryRange, stageRange, inRange, taken, sendsOf, stateAfterSlot}
 use Rattle.device.specs.Device.{bodyAfterSlot, bodyAfterReset, stateAfterPulse, bodyAfterPulse}
 use Rattle.device.proofs.Keeps.{slot-keeps, reset-keeps, program-keeps}

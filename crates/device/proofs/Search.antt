@@ -1,12 +1,11 @@
 -- A ROM command and a search, slot by slot, of a device whose body has its kind's size. Assumes nothing.
-use Prim.Native.Nat.{ℕ, suc, _+_, _-_, _<_, _≤_}
+use Prim.Native.Nat.{ℕ, _+_, _-_, _<_}
 use mathlib.Core.Path.{_≡_, refl, sym, ap, _∙_}
-use mathlib.Core.Bool.{Bool, true, false, cond, not, _&&_, Bool·beq}
+use mathlib.Core.Bool.{Bool, true, false, cond, not, Bool·beq}
 use mathlib.Core.List.{List, [], _∷_, _++_}
 use native.Mathlib.Omega.{arith}
 use native.Mathlib.Nat.{zero-add}
 use lib.ListN.{length, length-append}
-use lib.Dec.{eqb, ltb, leb}
 use borrow.Author.Tests.{eq-eqb, lt-ltb, le-ltb, le-leb}
 use Rattle.bits.specs.Bit.{bitOf, bitAt, shiftIn}
 use Rattle.bits.specs.Levels.{spelled, shiftsIn}
@@ -14,7 +13,7 @@ use Rattle.bits.proofs.Laws.{below-eight}
 use Rattle.bits.proofs.Levels.{sends-bit, spells-eight, shifts-more}
 use Rattle.kind.specs.declared.Kind.{Kind}
 use Rattle.kind.specs.Kind.{bodySize}
-use Rattle.line.specs.declared.RomStage.the-variants.{Command, Search}
+use Rattle.line.specs.declared.RomStage.the-variants.{Command}
 use Rattle.line.specs.declared.Stage.the-variants.{Rom}
 use Rattle.line.specs.declared.Transfer.{Transfer}
 use Rattle.line.specs.Transfers.{waiting, atRomCommand, sends, shifted}
@@ -22,11 +21,12 @@ use Rattle.line.specs.Slots.{shiftedOver}
 use Rattle.line.proofs.Transfers.{over-is, over-more}
 use Rattle.rom.specs.Rom.{searchBit, addressed, romCommand, afterSearch, romNext, romRange}
 use Rattle.device.specs.declared.LineState.{LineState}
-use Rattle.device.specs.Device.{stageNext, lineState, sendsAsIs, afterSlot, stateAsIs, stageRange, inRange, sendsOf}
+use Rattle.device.specs.Device.{stageNext, lineState, sendsAsIs, afterSlot, stateAsIs, stageRange, inRange}
+use Rattle.device.specs.Device.{sendsOf}
 use Rattle.device.specs.Device.{stateAfterSlot}
 use Rattle.device.proofs.Range.{sends-same, step-same}
 
--- ---- the three slots of a code bit: the bit, its complement, and the direction, which decides whether the device stays
+-- ---- the three slots of a code bit: the bit, its complement, and the direction, which decides
 
 -- a device in the search of bit `at`, after slots at these levels: none, one or two
 abbrev pub searching : ℕ → List ℕ → List Bool → LineState

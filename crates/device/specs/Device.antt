@@ -144,9 +144,9 @@ inRange state kind body =
     eqb (length body) (bodySize kind)
     && stageRange (state .transfer .stage) kind (state .transfer .register) (state .transfer .left)
 
--- Document 01: a line state with a number outside its stage's range is taken as waiting. Our own ruling, as document 01
--- has no such line state: so is one in a memory function of another kind, or with a body not of its kind's size. A family
--- that is not known has no bytes of a body.
+-- Document 01: a line state with a number outside its stage's range is taken as waiting. Our own ruling, as document
+-- 01 has no such line state: so is one in a memory function of another kind, or with a body not of its kind's size. A
+-- family that is not known has no bytes of a body.
 unfoldable pub taken : LineState → Kind → List ℕ → LineState
 taken state kind body = cond (inRange state kind body) state waitingState
 

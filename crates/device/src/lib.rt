@@ -1,9 +1,10 @@
-// One device on the line: its line state by value, and what a slot, a reset and a program pulse leave of it and of its body.
+// One device on the line: its line state by value, and what a slot, a reset and a program pulse leave of it and of
+// its body.
 //
-// A slot has two sides: `step` is the line state after it and only reads the body, `write` is the body after it. Both are given the
-// level of the line. A line state that the device cannot be in is taken as waiting. The functions whose names end in `as_is` leave
-// that test out: no slot, reset or pulse leads out of the range (proofs/Range.antt), so that a run, which starts with devices that
-// wait, needs it nowhere.
+// A slot has two sides: `step` is the line state after it and only reads the body, `write` is the body after it. Both
+// are given the level of the line. A line state that the device cannot be in is taken as waiting. The functions whose
+// names end in `as_is` leave that test out: no slot, reset or pulse leads out of the range (proofs/Range.antt), so
+// that a run, which starts with devices that wait, needs it nowhere.
 use kind::Kind;
 use line::MemoryStage;
 use line::Stage;
@@ -11,10 +12,12 @@ use line::Transfer;
 ghost use mathlib.Core.Path.{_≡_};
 ghost use Rattle.line.specs.Transfers.{goesOn, shifted};
 ghost use Rattle.device.specs.Device.{memoryCommand, memoryNext, stageNext, memoryWrite, stageWrite, memoryReset};
-ghost use Rattle.device.specs.Device.{stageReset, memoryPulse, stagePulse, memoryProgram, stageProgram, lineState};
+ghost use Rattle.device.specs.Device.{stageReset, memoryPulse, stagePulse, memoryProgram, stageProgram};
+ghost use Rattle.device.specs.Device.{lineState};
 ghost use Rattle.device.specs.Device.{waitingState, resetState, waits, sendsAsIs, stateAsIs, bodyAsIs, resetAsIs};
 ghost use Rattle.device.specs.Device.{pulseAsIs, programAsIs, memoryRange, stageRange, inRange, taken, sendsOf};
-ghost use Rattle.device.specs.Device.{stateAfterSlot, bodyAfterSlot, bodyAfterReset, stateAfterPulse, bodyAfterPulse};
+ghost use Rattle.device.specs.Device.{stateAfterSlot, bodyAfterSlot, bodyAfterReset, stateAfterPulse};
+ghost use Rattle.device.specs.Device.{bodyAfterPulse};
 
 // Where a device is on the line: the line record of document 01.
 pub struct LineState {
@@ -196,7 +199,8 @@ impl LineState {
         line::sends(transfer)
     }
 
-    // Whether slots are left of the transfer after this one. Such a slot needs neither the kind nor the body, and changes no body.
+    // Whether slots are left of the transfer after this one. Such a slot needs neither the kind nor the body, and
+    // changes no body.
     pub fn goes_on(self) -> bool
         ensures { λ r. ⌜ r ≡ goesOn (self .transfer) ⌝ }
     {

@@ -39,8 +39,7 @@ epromNext (WriteCrc field address byte) value body = awaitPulse field address by
 epromNext (PulseDue field address byte) value body = waiting
 epromNext (Stored field address) value body = nextPass field address
 
--- the transfer after a program pulse: where one is due, that of the byte as the pulse leaves it; elsewhere a pulse does
--- nothing
+-- the transfer after a pulse: where one is due, the byte is sent as it is then stored; elsewhere a pulse does nothing
 unfoldable pub epromPulse : EpromStage → Transfer → List ℕ → Transfer
 epromPulse (ReadLow read) transfer body = transfer
 epromPulse (ReadHigh read low) transfer body = transfer
@@ -53,7 +52,7 @@ epromPulse (WriteCrc field address byte) transfer body = transfer
 epromPulse (PulseDue field address byte) transfer body = sendStored field address (programmed field address byte body)
 epromPulse (Stored field address) transfer body = transfer
 
--- the body after it
+-- the body after a program pulse
 unfoldable pub epromProgram : EpromStage → List ℕ → List ℕ
 epromProgram (ReadLow read) body = body
 epromProgram (ReadHigh read low) body = body
@@ -66,8 +65,7 @@ epromProgram (WriteCrc field address byte) body = body
 epromProgram (PulseDue field address byte) body = programmed field address byte body
 epromProgram (Stored field address) body = body
 
--- the range of a transfer's numbers, by its stage: an address lies inside its field, that after a CRC may also be the
--- field's end
+-- the range of a transfer's numbers, by its stage: an address lies inside its field, after a CRC it may be its end
 unfoldable pub epromRange : EpromStage → ℕ → Bool
 epromRange (ReadLow read) left = underWay 8 left
 epromRange (ReadHigh read low) left = underWay 8 left

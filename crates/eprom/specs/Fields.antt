@@ -27,7 +27,7 @@ unfoldable pub fieldLength : Field → ℕ
 fieldLength Data = dataLength
 fieldLength Status = statusLength
 
--- the data has four pages
+-- the data has four pages of 32 bytes
 abbrev pub pageLength : ℕ
 pageLength = 32
 

@@ -24,8 +24,7 @@ readHigh read low = listening (inEprom (ReadHigh read low))
 abbrev pub sendCrc : EpromRead → ℕ → ℕ → Transfer
 sendCrc read address crc = sending (inEprom (ReadCrc read address)) crc
 
--- the byte at `address` is sent; `crc` is the CRC of the bytes before it, and the stage holds the CRC of these and this
--- one
+-- the byte at `address` is sent; `crc` is the CRC of those before it, and the stage holds the CRC with it taken in
 unfoldable pub sendByte : EpromRead → ℕ → ℕ → List ℕ → Transfer
 sendByte read address crc body =
     let byte = stored (fieldRead read) address body in
@@ -47,8 +46,7 @@ endsSpan ReadMemory next = eqb next dataLength
 endsSpan ReadStatus next = eqb next statusLength
 endsSpan ReadPages next = eqb (next % pageLength) 0
 
--- after a byte comes the next one, or the CRC of the bytes since the last CRC. An address outside its field has no next
--- byte
+-- after a byte comes the next one, or the CRC of the bytes since the last CRC; an address outside its field waits
 unfoldable pub afterByte : EpromRead → ℕ → ℕ → List ℕ → Transfer
 afterByte read address crc body =
     cond (ltb address (fieldLength (fieldRead read)))

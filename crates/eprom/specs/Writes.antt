@@ -33,7 +33,7 @@ writeLatch field address =
     let start = cut field address in
     writeData field start (commandCrc (writeCommand field) start)
 
--- the CRC is sent with the data byte taken in
+-- the data byte is taken in, and the CRC is sent
 unfoldable pub afterData : Field → ℕ → ℕ → ℕ → Transfer
 afterData field address crc byte = sending (inEprom (WriteCrc field address byte)) (crcByte crc byte)
 
@@ -51,7 +51,7 @@ unfoldable pub programmedByte : Field → ℕ → ℕ → List ℕ → ℕ
 programmedByte field address byte body =
     cond (protected field address body) (stored field address body) (bitAnd (stored field address body) byte)
 
--- and of the body
+-- the body with that byte in its place
 unfoldable pub programmed : Field → ℕ → ℕ → List ℕ → List ℕ
 programmed field address byte body = set body (fieldStart field + address) (programmedByte field address byte body)
 

@@ -1,6 +1,7 @@
--- Document 01, 'The trace and its levels' and 'ROM stage': a device on the line goes by transfers of 1 to 8 slots. Bits go
--- least significant first, so in each slot a device sends the lowest bit of its shift register, and the level of the line
--- comes in at the register's top. A device that listens sends ones meanwhile. `left` counts the slots left of the transfer.
+-- Document 01, 'The trace and its levels' and 'ROM stage': a device on the line goes by transfers of 1 to 8 slots.
+-- Bits go least significant first, so in each slot a device sends the lowest bit of its shift register, and the level
+-- of the line comes in at the register's top. A device that listens sends ones meanwhile. `left` counts the slots
+-- left of the transfer.
 --
 -- The stages are the enums of `src/lib.rt`. Their numbers are these, each with its range, which `romRange`, `sramRange`
 -- and `epromRange` of the crates above test together with the range of `left`.
@@ -16,8 +17,8 @@
 -- Memory stage, DS1992 and DS1993; up to 8 slots unless another number is named
 --   WriteLow                      no number
 --   WriteHigh low                 the low byte of the address
---   WriteData offset bit          the place of the next data bit: offset below 32 and bit below 8, or offset 32 (offset 31
---                                 is complete) and bit 0; 1 slot
+--   WriteData offset bit          the place of the next data bit: offset below 32 and bit below 8, or offset 32 and
+--                                 bit 0 once offset 31 is complete; 1 slot
 --   ReadRegister at               which of TA1, TA2, E/S is sent, below 3
 --   ReadScratchpad offset         the byte of the scratchpad that is sent, below 32
 --   CopyPattern at same           pattern bytes received, below 3; whether all of them were those of the registers

@@ -1,13 +1,15 @@
 // A device on the line: one shift register and a stage.
 //
-// A device goes by transfers of 1 to 8 slots. In each slot it sends the lowest bit of its shift register, and the level of the line
-// comes in at the register's top, so that a device listens by sending ones. The stage says which transfer is under way; only when its
-// last slot is through do the stage and the byte received say which transfer comes next.
+// A device goes by transfers of 1 to 8 slots. In each slot it sends the lowest bit of its shift register, and the
+// level of the line comes in at the register's top, so that a device listens by sending ones. The stage says which
+// transfer is under way; only when its last slot is through do the stage and the byte received say which transfer
+// comes next.
 //
 // All numbers of a stage are bytes, so that a transfer fits into eight of them.
 ghost use mathlib.Core.Path.{_≡_};
 ghost use Prim.Native.Nat.{_-_};
-ghost use Rattle.line.specs.Transfers.{waiting, sending, listening, listeningOnce, atRomCommand, atMemoryCommand, underWay, sends, goesOn, shifted};
+ghost use Rattle.line.specs.Transfers.{waiting, sending, listening, listeningOnce, atRomCommand};
+ghost use Rattle.line.specs.Transfers.{atMemoryCommand, underWay, sends, goesOn, shifted};
 
 // Which device is addressed. A device that waits for a reset is in this stage.
 pub enum RomStage {
@@ -24,18 +26,20 @@ pub enum RomStage {
 
 // A memory function of a DS1992 or DS1993.
 pub enum SramStage {
-    // Write scratchpad: receives the address, low byte first; then each data bit in a slot of its own. `offset` and `bit` are the place
-    // in the scratchpad of the bit that comes next; `offset` is 32 when offset 31 is complete.
+    // Write scratchpad: receives the address, low byte first; then each data bit in a slot of its own. `offset` and
+    // `bit` are the place in the scratchpad of the bit that comes next; `offset` is 32 when offset 31 is complete.
     WriteLow,
     WriteHigh { low: u8 },
     WriteData { offset: u8, bit: u8 },
     // Read scratchpad: sends TA1, TA2 and E/S, which are registers 0 to 2, then the scratchpad.
     ReadRegister { at: u8 },
     ReadScratchpad { offset: u8 },
-    // Copy scratchpad: receives byte `at` of the pattern, `same` if those before it were those of the registers; then sends zeros.
+    // Copy scratchpad: receives byte `at` of the pattern, `same` if those before it were those of the registers; then
+    // sends zeros.
     CopyPattern { at: u8, same: bool },
     Copied,
-    // Read memory: receives the address, low byte first; then sends the memory, here its byte at the address `low`, `high`.
+    // Read memory: receives the address, low byte first; then sends the memory, here its byte at the address `low`,
+    // `high`.
     ReadLow,
     ReadHigh { low: u8 },
     ReadMemory { low: u8, high: u8 },
@@ -56,8 +60,8 @@ pub enum EpromRead {
 
 // A memory function of a DS1982.
 pub enum EpromStage {
-    // A read: receives the address, low byte first; then sends a CRC, with the address of the byte that comes after it, or a byte, with
-    // the CRC of the bytes since the last CRC, this one among them.
+    // A read: receives the address, low byte first; then sends a CRC, with the address of the byte that comes after
+    // it, or a byte, with the CRC of the bytes since the last CRC, this one among them.
     ReadLow {
         read: EpromRead,
     },
@@ -74,8 +78,9 @@ pub enum EpromStage {
         address: u8,
         crc: u8,
     },
-    // A write: receives the address, low byte first; then for each address receives the data byte, with the CRC generator's register
-    // before it, sends the CRC, has one slot where the program pulse is due, and sends the stored byte.
+    // A write: receives the address, low byte first; then for each address receives the data byte, with the CRC
+    // generator's register before it, sends the CRC, has one slot where the program pulse is due, and sends the
+    // stored byte.
     WriteLow {
         field: Field,
     },

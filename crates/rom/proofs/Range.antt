@@ -1,7 +1,7 @@
 -- The numbers of a transfer stay in the range of the ROM stage, until a device is addressed. Assumes nothing.
 use Prim.Native.Nat.{ℕ, _+_, _-_}
 use mathlib.Core.Path.{_≡_, refl}
-use mathlib.Core.Bool.{Bool, true, false, cond, _&&_, Bool·beq}
+use mathlib.Core.Bool.{Bool, true, false, cond, Bool·beq}
 use mathlib.Core.List.{List}
 use native.Mathlib.Omega.{arith}
 use lib.Dec.{ltb, eqb}
@@ -52,7 +52,7 @@ next-ranged Waiting value body level = waits
 next-ranged Command value body level =
     decide (eqb value 0x33) (λ _. ranged (Read 0) _ 8 refl)
     (λ _. decide (eqb value 0x55) (λ _. ranged (Match 0) 0xFF 1 refl)
-    (λ _. decide (eqb value 0xF0) (λ _. ranged (Search 0) _ 3 refl)
+    (λ _. decide (eqb value 0xF0) (λ _. ranged (Search 0) _ _ refl)
     (λ _. decide (eqb value 0xCC) (λ _. leaves) (λ _. waits))))
 next-ranged (Read byte) value body level =
     decide (ltb byte 7)
@@ -65,5 +65,5 @@ next-ranged (Match at) value body level =
 next-ranged (Search at) value body level =
     decide (Bool·beq (bitAt body at) level)
     (λ _. decide (ltb at 63)
-    (λ t. ranged (Search (at + 1)) _ 3 (rw (lt-ltb (at + 1) 64 (omega (arith, ltb-true at 63 t))))) (λ _. leaves))
+    (λ t. ranged (Search (at + 1)) _ _ (rw (lt-ltb (at + 1) 64 (omega (arith, ltb-true at 63 t))))) (λ _. leaves))
     (λ _. waits)

@@ -21,8 +21,8 @@ readByte byte body = sending (Rom (Read byte)) (getD body byte 0)
 abbrev pub matchBit : ℕ → Transfer
 matchBit at = listeningOnce (Rom (Match at))
 
--- F0h, search: three slots for each code bit. The bit is sent, then its complement; in the third slot, the direction, the
--- device listens. The register's lowest bit is sent first: 1, 0, 1 where the code bit is 1, else 0, 1, 1.
+-- F0h, search: three slots for each code bit. The bit is sent, then its complement; in the third slot, the direction,
+-- the device listens. The register's lowest bit is sent first: 1, 0, 1 where the code bit is 1, else 0, 1, 1.
 unfoldable pub searchBit : ℕ → List ℕ → Transfer
 searchBit at body = record { register = cond (bitAt body at) 0b101 0b110; left = 3; stage = Rom (Search at) }
 

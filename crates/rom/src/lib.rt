@@ -11,7 +11,8 @@ const LAST_BYTE: u8 = 7;
 
 const LAST_BIT: u8 = 63;
 
-// The three bits of a search transfer, the lowest sent first: the code bit, its complement, and a one while the device listens.
+// The three bits of a search transfer, the lowest sent first: the code bit, its complement, and a one while the
+// device listens.
 const SEARCH_ONE: u8 = 0b101;
 
 const SEARCH_ZERO: u8 = 0b110;

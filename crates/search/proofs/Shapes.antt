@@ -1,4 +1,5 @@
--- A master's step and what a search gives back, as plain data, and the signatures of the search's functions as shapes: a walk cites its own and those of its callees.
+-- A master's step and what a search gives back, as plain data, and the signatures of the search's functions as shapes:
+-- a walk cites its own and those of its callees.
 -- A parameter that is dropped, added or of another kind is changed here, once, and in the walks' lists of arguments.
 use mathlib.Core.Path.{refl}
 use mathlib.Core.List.{[], _∷_}
@@ -58,13 +59,37 @@ next-step-shape = record {
 }
 
 abbrev pub refusal-shape : Shape
-refusal-shape = record { lifetimes = 1; outlives = []; kinds = shrK 0 tt u8 ∷ dataK (num w64) ∷ dataK (num w64) ∷ dataK (num w64) ∷ []; gives = num w32 }
+refusal-shape = record {
+  lifetimes = 1;
+  outlives = [];
+  kinds = shrK 0 tt u8 ∷ dataK (num w64) ∷ dataK (num w64)
+      ∷ dataK (num w64) ∷ [];
+  gives = num w32;
+}
 
 abbrev pub exchange-shape : Shape
-exchange-shape = record { lifetimes = 4; outlives = []; kinds = shrK 0 tt u8 ∷ mutK 1 tt u8 ∷ mutK 2 tt u8 ∷ mutK 3 tt R ∷ []; gives = num w64 }
+exchange-shape = record {
+  lifetimes = 4;
+  outlives = [];
+  kinds = shrK 0 tt u8 ∷ mutK 1 tt u8 ∷ mutK 2 tt u8 ∷ mutK 3 tt R
+      ∷ [];
+  gives = num w64;
+}
 
 abbrev pub tally-shape : Shape
-tally-shape = record { lifetimes = 1; outlives = []; kinds = dataK (num w32) ∷ shrK 0 tt u8 ∷ dataK (num w64) ∷ []; gives = found }
+tally-shape = record {
+  lifetimes = 1;
+  outlives = [];
+  kinds = dataK (num w32) ∷ shrK 0 tt u8 ∷ dataK (num w64)
+      ∷ [];
+  gives = found;
+}
 
 abbrev pub search-shape : Shape
-search-shape = record { lifetimes = 4; outlives = []; kinds = shrK 0 tt u8 ∷ mutK 1 tt u8 ∷ mutK 2 tt u8 ∷ mutK 3 tt R ∷ []; gives = found }
+search-shape = record {
+  lifetimes = 4;
+  outlives = [];
+  kinds = shrK 0 tt u8 ∷ mutK 1 tt u8 ∷ mutK 2 tt u8 ∷ mutK 3 tt R
+      ∷ [];
+  gives = found;
+}

@@ -70,15 +70,15 @@ bit-keeps offset bit body level =
     (then (begin-keeps offset bit body) (store-keeps offset bit (beginByte offset bit body) level))
     (put-keeps body of true (omega arith))
 
-end-keeps : (bit : ℕ) (body : List ℕ) → Keeps body (endData bit body)
+end-keeps : (sent : ℕ) (body : List ℕ) → Keeps body (endData sent body)
 unfolding endData
-end-keeps bit body = either (ltb 0 bit && not (bitAt body of)) (put-keeps body pf true (omega arith)) kept
+end-keeps sent body = either (ltb 0 sent && not (bitAt body of)) (put-keeps body pf true (omega arith)) kept
 
 accept-keeps : (size : ℕ) (body : List ℕ) → Keeps body (acceptCopy size body)
 unfolding acceptCopy copyToMemory
 accept-keeps size body =
     then (sets-keeps (copyBytes size body) body (memory + target body) (omega arith))
-    (put-keeps (copyToMemory size body) aa true (omega arith))
+    (put-keeps (copyToMemory size body) aa _ (omega arith))
 
 pub write-keeps : (s : SramStage) (size value : ℕ) (body : List ℕ) (level : Bool)
     → Keeps body (sramWrite s size value body level)

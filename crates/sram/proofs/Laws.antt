@@ -15,7 +15,8 @@ use Rattle.sram.specs.Sram.{endingOffset, target, targetOffset, copyLeng
 -- bytes stored from a place on leave what stands before it
 getD-sets : (vs l : List ℕ) (i j : ℕ) → j < i → getD (sets l i vs) j 0 ≡ getD l j 0
 getD-sets [] l i j h = refl
-getD-sets (v ∷ vs) l i j h = getD-sets vs (set l i v) (suc i) j (omega arith) ∙ getD-set-other l i j v 0 (λ e. omega arith)
+getD-sets (v ∷ vs) l i j h =
+    getD-sets vs (set l i v) (suc i) j (omega arith) ∙ getD-set-other l i j v 0 (λ e. omega arith)
 
 -- one byte more
 sets-one-more : (vs l : List ℕ) (i v : ℕ) → sets l i (vs ++ (v ∷ [])) ≡ set (sets l i vs) (i + length vs) v
@@ -26,7 +27,8 @@ sets-one-more (w ∷ vs) l i v =
 
 -- a byte from an earlier place, after k of them
 pub copy-one-more : (l : List ℕ) (from to k : ℕ) → from + k < to
-    → set (sets l to (take k (drop from l))) (to + k) (getD (sets l to (take k (drop from l))) (from + k) 0) ≡ sets l to (take (k + 1) (drop from l))
+    → set (sets l to (take k (drop from l))) (to + k) (getD (sets l to (take k (drop from l))) (from + k) 0)
+    ≡ sets l to (take (k + 1) (drop from l))
 copy-one-more l from to k h = choose (ltb (from + k) (length l)) refl
   where
     s : List ℕ
@@ -35,7 +37,8 @@ copy-one-more l from to k h = choose (ltb (from + k) (length l)) refl
     byte : getD (sets l to (take k s)) (from + k) 0 ≡ getD s k 0
     byte = getD-sets (take k s) l to (from + k) h ∙ sym (getD-drop from l k 0)
 
-    choose : (t : Bool) → ltb (from + k) (length l) ≡ t → set (sets l to (take k s)) (to + k) (getD (sets l to (take k s)) (from + k) 0) ≡ sets l to (take (k + 1) s)
+    choose : (t : Bool) → ltb (from + k) (length l) ≡ t
+        → set (sets l to (take k s)) (to + k) (getD (sets l to (take k s)) (from + k) 0) ≡ sets l to (take (k + 1) s)
     choose true e =
         let inside : k < length s = simp length-drop (omega (arith, ltb-true (from + k) (length l) e)) in
         let taken : length (take k s) ≡ k = length-take-le k s (omega arith) in
@@ -46,7 +49,8 @@ copy-one-more l from to k h = choose (ltb (from + k) (length l)) refl
     choose false e =
         let past : length l ≤ from + k = ltb-false (from + k) (length l) e in
         let all : length s ≤ k = simp length-drop (omega arith) in
-        set-out (sets l to (take k s)) (to + k) (getD (sets l to (take k s)) (from + k) 0) (simp length-sets (omega arith))
+        set-out (sets l to (take k s)) (to + k) (getD (sets l to (take k s)) (from + k) 0)
+        (simp length-sets (omega arith))
         ∙ ap (λ (vs : List ℕ). sets l to vs) (take-all k s all ∙ sym (take-all (k + 1) s (omega arith)))
 
 -- what is copied is in the scratchpad

@@ -1,5 +1,6 @@
--- The numbers of a transfer stay in the range of its stage: from the memory command on, whatever comes. Assumes nothing.
-use Prim.Native.Nat.{ℕ, _+_, _-_, _*_, _/_, _%_, _<_}
+-- The numbers of a transfer stay in the range of its stage: from the memory command on, whatever comes. Assumes
+-- nothing.
+use Prim.Native.Nat.{ℕ, _+_, _-_, _/_, _%_, _<_}
 use mathlib.Core.Path.{_≡_, refl}
 use mathlib.Core.Bool.{Bool, true, false, cond, _&&_}
 use mathlib.Core.List.{List}

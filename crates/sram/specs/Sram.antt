@@ -1,6 +1,6 @@
 -- Document 01, 'DS1992/DS1993 memory stage': the transfers of the memory functions, which follows which, and the body
--- after each. The memory has `size` bytes. A device that sends ones until a reset is waiting. A stage is taken as it is:
--- that its numbers are in range and its body has its kind's size is for the crate `device` to see to.
+-- after each. The memory has `size` bytes. A device that sends ones until a reset is waiting. A stage is taken as it
+-- is: that its numbers are in range and its body has its kind's size is for the crate `device` to see to.
 use Prim.Native.Nat.{ℕ, _+_, _-_, _*_, _/_, _%_}
 use mathlib.Core.Bool.{Bool, true, cond, not, _&&_, _||_}
 use mathlib.Core.List.{List}
@@ -78,9 +78,9 @@ afterData offset bit =
     (cond (ltb bit 7) (writeData offset (bit + 1)) (writeData (offset + 1) 0))
     (writeData offset bit)
 
--- a reset after 1 to 7 bits of a data byte sets PF, if OF is clear
+-- a reset after 1 to 7 bits of a data byte were sent sets PF, if OF is clear
 unfoldable pub endData : ℕ → List ℕ → List ℕ
-endData bit body = cond (ltb 0 bit && not (bitAt body of)) (putBit body pf true) body
+endData sent body = cond (ltb 0 sent && not (bitAt body of)) (putBit body pf true) body
 
 -- ---- AAh read scratchpad: TA1, TA2, E/S, then the scratchpad from T4:T0 to offset 31, then ones
 
@@ -101,8 +101,8 @@ afterScratchpad offset body = cond (ltb offset 31) (readScratchpad (offset + 1) 
 abbrev pub copyPattern : ℕ → Bool → Transfer
 copyPattern at same = listening (inSram (CopyPattern at same))
 
--- Whether byte `at` of the pattern and those before it are the registers', flags and all. No slot before the last of the
--- pattern changes a register, so that after the last the whole pattern has been compared.
+-- Whether byte `at` of the pattern and those before it are the registers', flags and all. No slot before the last of
+-- the pattern changes a register, so that after the last the whole pattern has been compared.
 unfoldable pub patternSame : ℕ → Bool → ℕ → List ℕ → Bool
 patternSame at same value body = same && eqb (getD body (ta1 + at) 0) value
 
@@ -113,8 +113,8 @@ copied = sending (inSram Copied) 0
 unfoldable pub afterPattern : ℕ → Bool → Transfer
 afterPattern at same = cond (ltb at 2) (copyPattern (at + 1) same) (cond same copied waiting)
 
--- How many bytes are copied: those from T4:T0 through the ending offset; none if the ending offset is below T4:T0, or if
--- the target is past memory.
+-- How many bytes are copied: those from T4:T0 through the ending offset; none if the ending offset is below T4:T0, or
+-- if the target is past memory.
 unfoldable pub copyLength : ℕ → List ℕ → ℕ
 copyLength size body =
     cond (ltb (endingOffset body) (targetOffset body) || leb size (target body)) 0

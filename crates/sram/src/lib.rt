@@ -1,17 +1,21 @@
 // The memory stage of a DS1992 or DS1993: scratchpad and memory. `size` is the number of bytes of memory.
 //
-// The end of a transfer has two sides that are functions of their own: `next` is the transfer after it and only reads the body,
-// `write` is the body after it.
+// The end of a transfer has two sides that are functions of their own: `next` is the transfer after it and only reads
+// the body, `write` is the body after it.
 use line::MemoryStage;
 use line::SramStage;
 use line::Stage;
 use line::Transfer;
 ghost use mathlib.Core.Path.{_≡_};
 ghost use Prim.Native.Nat.{_+_, _<_};
-ghost use Rattle.sram.specs.Sram.{inSram, addressOf, target, targetOffset, endingOffset, writeData, loadTarget, beginByte};
-ghost use Rattle.sram.specs.Sram.{writeBit, afterData, endData, readRegister, readScratchpad, afterRegister, afterScratchpad};
-ghost use Rattle.sram.specs.Sram.{copyPattern, copied, patternSame, afterPattern, copyLength, copyToMemory, acceptCopy};
-ghost use Rattle.sram.specs.Sram.{patternWrite, readMemory, dataRange, sramCommand, sramNext, sramWrite, sramReset, sramRange};
+ghost use Rattle.sram.specs.Sram.{inSram, addressOf, target, targetOffset, endingOffset, writeData, loadTarget};
+ghost use Rattle.sram.specs.Sram.{beginByte};
+ghost use Rattle.sram.specs.Sram.{writeBit, afterData, endData, readRegister, readScratchpad, afterRegister};
+ghost use Rattle.sram.specs.Sram.{afterScratchpad};
+ghost use Rattle.sram.specs.Sram.{copyPattern, copied, patternSame, afterPattern, copyLength, copyToMemory};
+ghost use Rattle.sram.specs.Sram.{acceptCopy};
+ghost use Rattle.sram.specs.Sram.{patternWrite, readMemory, dataRange, sramCommand, sramNext, sramWrite};
+ghost use Rattle.sram.specs.Sram.{sramReset, sramRange};
 
 // The flags of E/S, by their bit of the body.
 const PF: usize = 8 * kind::ES + 5;
@@ -121,10 +125,10 @@ fn write_bit(offset: u8, bit: u8, body: &mut [u8], level: bool)
 }
 
 // A reset after 1 to 7 bits of a data byte sets PF, unless OF is set.
-fn end_data(bit: u8, body: &mut [u8])
-    ensures { λ r. ⌜ now (body .exit) ≡ endData bit (now (body .entry)) ⌝ }
+fn end_data(sent: u8, body: &mut [u8])
+    ensures { λ r. ⌜ now (body .exit) ≡ endData sent (now (body .entry)) ⌝ }
 {
-    if bit == 0 {
+    if sent == 0 {
         return;
     }
     if bits::bit_at(body, OF) {
@@ -193,7 +197,8 @@ fn copied() -> Transfer
     line::sending(in_sram(SramStage::Copied), 0)
 }
 
-// Whether the pattern's bytes are those of the registers, `same` for the bytes before this one. Every flag of E/S counts.
+// Whether the pattern's bytes are those of the registers, `same` for the bytes before this one. Every flag of E/S
+// counts.
 fn pattern_same(at: u8, same: bool, value: u8, body: &[u8]) -> bool
     ensures { λ r. ⌜ r ≡ patternSame at same value (now (body .entry)) ⌝ }
 {
@@ -225,7 +230,8 @@ fn copy_length(size: u16, body: &[u8]) -> u8
     end + 1 - offset
 }
 
-// The scratchpad from T4:T0 through the ending offset goes to memory at the target. The two parts of the body do not overlap.
+// The scratchpad from T4:T0 through the ending offset goes to memory at the target. The two parts of the body do not
+// overlap.
 fn copy(size: u16, body: &mut [u8])
     ensures { λ r. ⌜ now (body .exit) ≡ copyToMemory size (now (body .entry)) ⌝ }
 {

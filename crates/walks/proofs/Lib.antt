@@ -2,7 +2,6 @@ pub mod Again
 pub mod Arrays
 pub mod Frame
 pub mod Params
-pub mod Parts
 pub mod Rows
 pub mod Vars
 pub mod Walk

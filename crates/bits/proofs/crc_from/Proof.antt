@@ -35,11 +35,17 @@ loop-less c = search needs
 
 loop-again : tie.Need-loop-again Inv-loop μ-loop
 unfolding crcFrom crcByte
-loop-again c = (omega arith, rw (c .crc-byte .ensures, add-one) (rw (drop-cons (c .before .before .before .before .before .args .s .now) (c .before .before .before .loop .i) 0 (c .before .before .loop-test .taken)) at (c .before .before .before .loop .inv .1)))
+loop-again c =
+    let l = c .before .before .before .loop in
+    let s = c .before .before .before .before .before .args .s .now in
+    let d = drop-cons s (l .i) 0 (c .before .before .loop-test .taken) in
+    (omega arith, rw (c .crc-byte .ensures, add-one) (rw d at (l .inv .1)))
 
 returns : tie.Need-returns Inv-loop μ-loop
 unfolding crcFrom crcByte
-returns c = let e : c .before .loop .i ≡ length (c .before .before .before .args .s .now) = omega arith in rw (e, drop-length) at (c .before .loop .inv .1)
+returns c =
+    let e : c .before .loop .i ≡ length (c .before .before .before .args .s .now) = omega arith in
+    rw (e, drop-length) at (c .before .loop .inv .1)
 
 pub crc-from-spec : {M : Type 1} → statement M
 crc-from-spec =

@@ -2,13 +2,13 @@
 -- The lines are looked into once, before the loop, and shut after it.
 -- What is high after i turns is `highWith .. i` (`Levels.antt`), by recursion on i; with all that are asked the level is `levelOn` (`level-loop`).
 -- All that it knows of its callees is that each meets its contract.
--- Assumes nothing.
+-- Assumes nothing. `Walk.antt` of `walks` says how a walk is written.
 use Rattle.walks.proofs.Walk.{_≡_, refl, ℕ, suc, _<_, _≤_, _+_, _*_, _^_, arith, [], _∷_, List, length, lit<, URA}
-use Rattle.walks.proofs.Walk.{named, w8, w64, Val, vint, vbool, SProp, emp, id⊢, Share, flft, Fun, factI, Lfts, Shares}
+use Rattle.walks.proofs.Walk.{named, w8, w64, vint, vbool, SProp, emp, id⊢, Share, flft, Fun, factI, Lfts, Shares}
 use Rattle.walks.proofs.Walk.{givenOf, tables, tablesOf, Memory, Routine, Heap, Tables, Atoms, Given, Item, ‵, _$_, ! }
-use Rattle.walks.proofs.Walk.{move, look, forget, lit, of-opd, no-more, bin, returns, Is, u8, RefT, sliceVal, ShrSlice}
-use Rattle.walks.proofs.Walk.{Room, row, cited, Cell, void, has, Blocks, env, stand, quits, lowers, Walk, Met, enters}
-use Rattle.walks.proofs.Walk.{asks, finishes, proved, var, head, count, new, bump, whiles, points, lands-new, also}
+use Rattle.walks.proofs.Walk.{move, look, forget, lit, of-opd, no-more, bin, returns, Is, u8, RefT, ShrSlice, Room, row}
+use Rattle.walks.proofs.Walk.{cited, Cell, void, has, Blocks, env, stand, quits, lowers, Walk, Met, enters, asks}
+use Rattle.walks.proofs.Walk.{finishes, proved, var, head, count, new, bump, whiles, val, points, lands-new, also}
 use Rattle.walks.proofs.Walk.{lands-renew, Looked, opens-shr, closes-shr, sees, in-row, elem}
 use types.Run.{true-lit}
 use mathlib.Core.Bool.{Bool, _&&_}
@@ -60,13 +60,6 @@ module _ {M : Type 1} (𝓤 : URA M) (H : Heap 𝓤) (A : Atoms 𝓤) (W : Given
   abbrev o : ℕ
   o = x′ .ptr .1
 
-  -- the machine values of the slices
-  abbrev s : Val
-  s = sliceVal (x .ptr) (length im)
-
-  abbrev s′ : Val
-  s′ = sliceVal (b, o) (length ys)
-
   -- how many devices there are, how many of them are asked, what is high after i of them, and the line state of device i
   abbrev n : ℕ
   n = servedOf im (length ys)
@@ -85,12 +78,12 @@ module _ {M : Type 1} (𝓤 : URA M) (H : Heap 𝓤) (A : Atoms 𝓤) (W : Given
 
   -- the locals after i turns, and behind them [the row; the open look; the lines; the image's token; the image]
   abbrev vs : ℕ → List Cell
-  vs i = has s ∷ has s′ ∷ has (vint w8 v) ∷ has (vint w64 n) ∷ has (vint w64 m) ∷ has (vbool (hi i)) ∷ has (vint w64 i) ∷ void ∷ has (vint w64 (length ys)) ∷ []
+  vs i = has (val x) ∷ has (val x′) ∷ has (vint w8 v) ∷ has (vint w64 n) ∷ has (vint w64 m) ∷ has (vbool (hi i)) ∷ has (vint w64 i) ∷ void ∷ has (vint w64 (length ys)) ∷ []
 
   abbrev At : Share → Blocks (code.function .locals) → ℕ → List (Item 𝓤)
   At z bs i = stand (env 𝓤 H (code.function .locals) bs) (void ∷ vs i)
-      (‵ (row R z ys b o) ∷ ‵ (Looked R (κs .1 .0) (qs .1 .0) z ys b o) ∷ ‵ (ShrSlice (named 1) (κs .1 .0) R .own x′ (s′ ∷ []))
-      ∷ ‵ (flft (κs .0) (qs .0)) ∷ ‵ (ShrSlice (named 0) (κs .0) u8 .own x (s ∷ [])) ∷ [])
+      (‵ (row R z ys b o) ∷ ‵ (Looked R (κs .1 .0) (qs .1 .0) z ys b o) ∷ ‵ (ShrSlice (named 1) (κs .1 .0) R .own x′ (val x′ ∷ []))
+      ∷ ‵ (flft (κs .0) (qs .0)) ∷ ‵ (ShrSlice (named 0) (κs .0) u8 .own x (val x ∷ [])) ∷ [])
 
   walk : Walk 𝓤 H shape A W (level.clauses 𝓤 H A mem run) (λ κs a. Unit {0}) 𝓣 code.function κs qs tt (x, (x′, (v, tt))) tt
   unfolding highWith
@@ -104,12 +97,12 @@ module _ {M : Type 1} (𝓤 : URA M) (H : Heap 𝓤) (A : Atoms 𝓤) (W : Given
       enters ! shape κs (x, (x′, (v, tt))) 𝓣 code.function are refl (λ bs.
       new ! (of-opd ! (count ! refl refl)) refl (tt, record { fits = room .0 }) $
       asks ! 𝓣 served-shape (served.clauses 𝓤 H A mem run) known-served (κs .0, tt) (qs .0, tt) tt
-      (x, (length ys, tt)) (s ∷ [], (vint w64 (length ys) ∷ [], tt)) tt ((refl, room .0), tt) (id⊢ 𝓤 _)
+      (x, (length ys, tt)) (val x ∷ [], (vint w64 (length ys) ∷ [], tt)) tt ((refl, room .0), tt) (id⊢ 𝓤 _)
       (λ m ws. m ≡ n) (λ m ws. id⊢ 𝓤 _) n (tt, (tt, tt)) (λ m ws e. (e, refl))
-      (also ! refl (also ! refl (no-more !))) (15 ∷ 17 ∷ []) refl (λ _. lands-new ! refl (tt, record { fits = n-fits }) $
+      (also ! refl (also ! refl (no-more !))) (15 ∷ 17 ∷ []) refl (λ _ _. lands-new ! refl (tt, record { fits = n-fits }) $
       asks ! 𝓣 asked-shape (asked.clauses 𝓤 H A mem run) known-asked tt tt tt (v, (n, tt)) (vint w8 v ∷ [], (vint w64 n ∷ [], tt)) tt
       (v-is, ((refl, n-fits), tt)) (id⊢ 𝓤 _) (λ r ws. r ≡ m) (λ r ws. id⊢ 𝓤 _) m (tt, (tt, tt)) (λ r ws e. (e, refl))
-      (also ! refl (also ! refl (no-more !))) [] refl (λ _. lands-new ! refl (tt, record { fits = m-fits }) $
+      (also ! refl (also ! refl (no-more !))) [] refl (λ _ _. lands-new ! refl (tt, record { fits = m-fits }) $
       new ! (of-opd ! (true-lit !)) refl (tt, tt) $
       new ! (of-opd ! (lit ! tt)) refl (tt, record { fits = lit< tt }) $
       move ! (16 ∷ 15 ∷ []) $ opens-shr ! tt line (copyR 𝓤 H A W) (κs .1 .0) x′ (λ z. lowers ! 3 15 $
@@ -127,13 +120,13 @@ module _ {M : Type 1} (𝓤 : URA M) (H : Heap 𝓤) (A : Atoms 𝓤) (W : Given
       (vbool (hi i) ∷ [], (mach (l i) ∷ [], tt)) tt
       (refl, (is, tt)) (id⊢ 𝓤 _) (λ r ws. r ≡ hi (suc i)) (λ r ws. id⊢ 𝓤 _)
       (hi (suc i)) (tt, (tt, tt)) (λ r ws e. (e, refl))
-      (also ! refl (also ! refl (no-more !))) [] refl (λ _. lands-renew ! refl (tt, tt) $
+      (also ! refl (also ! refl (no-more !))) [] refl (λ _ _. lands-renew ! refl (tt, tt) $
       bump ! refl next-fits tt $ forget ! 8 refl $ forget ! 10 refl $ forget ! 11 refl $ forget ! 12 refl $ forget ! 13 refl $ k)))
       -- the loop is left: the level is worked out, the lines are shut, and the function returns
       (asks ! 𝓣 level-of-shape (level-of.clauses 𝓤 H A mem run) known-level-of tt tt tt (v, (n, (hi m, tt)))
       (vint w8 v ∷ [], (vint w64 n ∷ [], (vbool (hi m) ∷ [], tt))) tt (v-is, ((refl, n-fits), (refl, tt))) (id⊢ 𝓤 _)
       (λ r ws. r ≡ lv) (λ r ws. id⊢ 𝓤 _) lv (tt, (tt, (tt, tt))) (λ r ws e. (e, refl))
-      (also ! refl (also ! refl (also ! refl (no-more !)))) [] refl (λ _. lands-new ! refl (tt, tt) $
+      (also ! refl (also ! refl (also ! refl (no-more !)))) [] refl (λ _ _. lands-new ! refl (tt, tt) $
       move ! (15 ∷ 16 ∷ []) $ closes-shr ! tt R (κs .1 .0) z ys b o $ lowers ! 1 15 $
       returns ! (look ! 0 refl) $ quits ! (has (vbool lv) ∷ vs m) $ move ! (2 ∷ 0 ∷ 3 ∷ 1 ∷ []) $
       finishes 𝓤 H shape A (level.clauses 𝓤 H A mem run) κs qs tt (x, (x′, (v, tt))) tt W ! lv (tt, (tt, (tt, tt))) refl

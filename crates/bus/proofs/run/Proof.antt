@@ -1,8 +1,11 @@
--- `bus::run` meets its contract: a walk of its MIR. It asks `refusal` for the number; where that is 0 it has `fill` make the first line states waiting and `run_events` run the trace, and where it is not it leaves.
--- Every slice is held closed: each call is lent what it takes, for a lifetime of the call, and is passed a copy of the trace.
--- Each arm of the `if` ends in `leaves`, the code behind it, at the lists that it has. That what the callees leave is what the contract says is `Shown.antt`'s `run-shown`.
+-- `bus::run` meets its contract: a walk of its MIR. It asks `refusal` for the number; where that is 0 it has `fill`
+-- make the first line states waiting and `run_events` run the trace, and where it is not it leaves.
+-- Every slice is held closed: each call is lent what it takes, for a lifetime of the call, and is passed a copy of the
+-- trace.
+-- Each arm of the `if` ends in `leaves`, the code behind it, at the lists that it has. That what the callees leave is
+-- what the contract says is `Shown.antt`'s `run-shown`.
 -- All that it knows of its callees is that each meets its contract.
--- Assumes nothing.
+-- Assumes nothing. `Walk.antt` of `walks` says how a walk is written.
 use Rattle.walks.proofs.Walk.{_≡_, refl, sym, ap, subst, _∙_, ℕ, _≤_, arith, [], _∷_, List, length, URA, fullShare}
 use Rattle.walks.proofs.Walk.{named, w32, w64, vunit, vint, vbool, SProp, emp, id⊢, flft, Fun, factI, Lfts, Shares}
 use Rattle.walks.proofs.Walk.{givenOf, tables, tablesOf, Memory, Routine, Heap, Tables, Atoms, Given, Item, ‵, _$_, Sq}
@@ -17,9 +20,11 @@ use Rattle.device.specs.Device.{waitingState}
 use Rattle.bus.specs.Refusal.{runRefusal}
 use Rattle.bus.specs.Run.{runOutcome, runOf}
 use Rattle.bus.specs.Loops.{servedOf, filled, RunState, runState, events}
-use Rattle.bus.proofs.Laws.{admitted, served-lines, filled-length, events-image-length, events-answers-length, events-lines-length}
+use Rattle.bus.proofs.Laws.{admitted, served-lines, filled-length, events-image-length, events-answers-length}
+use Rattle.bus.proofs.Laws.{events-lines-length}
 use Rattle.bus.proofs.Lines.{R, mach, typed}
-use Rattle.bus.proofs.Shapes.{run-shape as shape, refusal-shape, served-shape, waiting-shape, fill-shape, run-events-shape}
+use Rattle.bus.proofs.Shapes.{run-shape as shape, refusal-shape, served-shape, waiting-shape, fill-shape}
+use Rattle.bus.proofs.Shapes.{run-events-shape}
 use Rattle.bus.proofs.Shown.{ends, run-shown, run-refused, run-leaves}
 use Rattle.bus.proofs.refusal as refusal
 use Rattle.bus.proofs.refusal.Symbol as refusal-def
@@ -47,7 +52,8 @@ use Rattle.bus.proofs.run.Statement as stated
 use Rattle.bus.proofs.run.Code as code
 use Rattle.bus.proofs.run.Code.Mir as mir
 
-module _ {M : Type 1} (𝓤 : URA M) (H : Heap 𝓤) (A : Atoms 𝓤) (W : Given 𝓤 H A) (mem : Memory → SProp 𝓤) (run : Routine → Fun 𝓤)
+module _ {M : Type 1} (𝓤 : URA M) (H : Heap 𝓤) (A : Atoms 𝓤) (W : Given 𝓤 H A) (mem : Memory → SProp 𝓤)
+    (run : Routine → Fun 𝓤)
     (𝓣 : Tables 𝓤 H)
     (known-refusal : Met 𝓤 H A 𝓣 refusal-shape (refusal.clauses 𝓤 H A mem run) #bus·refusal)
     (known-served : Met 𝓤 H A 𝓣 served-shape (served.clauses 𝓤 H A mem run) #bus·served)
@@ -90,13 +96,18 @@ module _ {M : Type 1} (𝓤 : URA M) (H : Heap 𝓤) (A : Atoms 𝓤) (W : Given
   same = filled-length c waitingState ys
 
   asked : e ≡ 0 → (length tr ≤ length ans) × (c ≤ length us)
-  asked none = (admitted im tr (length ans) (length ys) none .answers-room, subst (λ (j : ℕ). c ≤ j) (sym same) (served-lines im (length ys)))
+  asked none = (
+    admitted im tr (length ans) (length ys) none .answers-room,
+    subst (λ (j : ℕ). c ≤ j) (sym same)
+        (served-lines im (length ys)),
+  )
 
   ran : e ≡ 0 → runOutcome e (done .image) (done .answers) (done .lines) ≡ runOf im tr ans ys
   ran none = ap (λ (m : ℕ). runOutcome m (done .image) (done .answers) (done .lines)) none ∙ run-shown tr im ans ys none
 
   each : {X Y Z : Type 0} {a a′ : X} {b b′ : Y} {c c′ : Z} → a ≡ a′ → b ≡ b′ → c ≡ c′
-      → _≡_ {A = X × (Unit {0} × (Y × (Z × (Unit {0} × Unit {0}))))} (a, (tt, (b, (c, (tt, tt))))) (a′, (tt, (b′, (c′, (tt, tt)))))
+      → _≡_ {A = X × (Unit {0} × (Y × (Z × (Unit {0} × Unit {0}))))} (a, (tt, (b, (c, (tt, tt)))))
+      (a′, (tt, (b′, (c′, (tt, tt)))))
   each p q r i = (p i, (tt, (q i, (r i, (tt, tt)))))
 
   -- the parameters and the number, then other locals; behind them the tokens, and the slices at lists
@@ -105,17 +116,23 @@ module _ {M : Type 1} (𝓤 : URA M) (H : Heap 𝓤) (A : Atoms 𝓤) (W : Given
 
   abbrev Had : Blocks (code.function .locals) → List Cell → List ℕ → List ℕ → List LineState → List (Item 𝓤)
   Had bs ws im′ ans′ ys′ = stand (env 𝓤 H (code.function .locals) bs) (void ∷ vs ws)
-      (‵ (flft (κs .0) (qs .0)) ∷ ‵ (flft (κs .1 .0) (qs .1 .0)) ∷ ‵ (flft (κs .1 .1 .0) (qs .1 .1 .0)) ∷ ‵ (flft (κs .1 .1 .1 .0) (qs .1 .1 .1 .0))
-      ∷ ‵ (MutSlice (named 0) (κs .0) u8 .own (to x im′) (val x ∷ [])) ∷ ‵ (ShrSlice (named 1) (κs .1 .0) u8 .own x₁ (val x₁ ∷ []))
-      ∷ ‵ (MutSlice (named 2) (κs .1 .1 .0) u8 .own (to x₂ ans′) (val x₂ ∷ [])) ∷ ‵ (MutSlice (named 3) (κs .1 .1 .1 .0) R .own (to x₃ ys′) (val x₃ ∷ [])) ∷ [])
+      (‵ (flft (κs .0) (qs .0)) ∷ ‵ (flft (κs .1 .0) (qs .1 .0)) ∷ ‵ (flft (κs .1 .1 .0) (qs .1 .1 .0))
+      ∷ ‵ (flft (κs .1 .1 .1 .0) (qs .1 .1 .1 .0))
+      ∷ ‵ (MutSlice (named 0) (κs .0) u8 .own (to x im′) (val x ∷ []))
+      ∷ ‵ (ShrSlice (named 1) (κs .1 .0) u8 .own x₁ (val x₁ ∷ []))
+      ∷ ‵ (MutSlice (named 2) (κs .1 .1 .0) u8 .own (to x₂ ans′) (val x₂ ∷ []))
+      ∷ ‵ (MutSlice (named 3) (κs .1 .1 .1 .0) R .own (to x₃ ys′) (val x₃ ∷ [])) ∷ [])
 
   -- the code behind the `if`
-  leaves : (bs : Blocks (code.function .locals)) (ws : List Cell) (im′ ans′ : List ℕ) (ys′ : List LineState) → Is u32 e (vint w32 e ∷ [])
-      → runOutcome e im′ ans′ ys′ ≡ runOf im tr ans ys → length im′ ≡ length im → length ans′ ≡ length ans → length ys′ ≡ length ys
+  leaves : (bs : Blocks (code.function .locals)) (ws : List Cell) (im′ ans′ : List ℕ) (ys′ : List LineState)
+      → Is u32 e (vint w32 e ∷ [])
+      → runOutcome e im′ ans′ ys′ ≡ runOf im tr ans ys → length im′ ≡ length im → length ans′ ≡ length ans
+      → length ys′ ≡ length ys
       → Sq W (Had bs ws im′ ans′ ys′) (runs (𝓣 .C) (𝓣 .Λ) (env 𝓤 H (code.function .locals) bs) mir.t-8
       (atRet (env 𝓤 H (code.function .locals) bs) (End 𝓤 H shape A (run′.clauses 𝓤 H A mem run) κs qs tt a tt)))
   leaves bs ws im′ ans′ ys′ e-is said len len₂ len₃ =
-      new ! (of-opd ! (var ! refl)) refl (tt, record { fits = e-is .1 }) $ returns ! (look ! 0 refl) $ quits ! (has (vint w32 e) ∷ vs ws) $
+      new ! (of-opd ! (var ! refl)) refl (tt, record { fits = e-is .1 }) $ returns ! (look ! 0 refl) $
+      quits ! (has (vint w32 e) ∷ vs ws) $
       finishes 𝓤 H shape A (run′.clauses 𝓤 H A mem run) κs qs tt a tt W ! e (im′, (tt, (ans′, (ys′, tt)))) e-is
       tt (len, (tt, (len₂, (len₃, tt)))) (factI 𝓤 _ (emp 𝓤) (run-leaves (runOf im tr ans ys) e im′ ans′ ys′ said))
 
@@ -129,12 +146,16 @@ module _ {M : Type 1} (𝓤 : URA M) (H : Heap 𝓤) (A : Atoms 𝓤) (W : Given
       enters ! shape κs a 𝓣 code.function are refl (λ bs.
       -- `refusal`: the image is lent to it as `&`
       again ! refl refl refl refl tt (refl, refl, refl) tt (room .0) $
-      new ! (of-opd ! (count ! refl refl)) refl (tt, record { fits = room₂ .0 }) $ new ! (of-opd ! (count ! refl refl)) refl (tt, record { fits = room₃ .0 }) $
+      new ! (of-opd ! (count ! refl refl)) refl (tt, record { fits = room₂ .0 }) $
+      new ! (of-opd ! (count ! refl refl)) refl (tt, record { fits = room₃ .0 }) $
       move ! (30 ∷ 26 ∷ []) $ shares-on ! tt u8 (κs .0) (qs .0) (to x im) (length im) refl (λ ν δ. lowers ! 3 26 $
-      asks ! 𝓣 refusal-shape (refusal.clauses 𝓤 H A mem run) known-refusal (ν ∷ [], (κs .1 .0, tt)) (fullShare, (qs .1 .0, tt)) tt
-      (under x δ im, (x₁, (length ans, (length ys, tt)))) (val x ∷ [], (val x₁ ∷ [], (vint w64 (length ans) ∷ [], (vint w64 (length ys) ∷ [], tt)))) tt
-      ((refl, room₂ .0), ((refl, room₃ .0), tt)) (id⊢ 𝓤 _) (λ r ws. r ≡ e) (λ r ws. id⊢ 𝓤 _) e (tt, (tt, (tt, (tt, tt)))) (λ r ws p. (p, refl))
-      (also ! refl (also ! refl (also ! refl (also ! refl (no-more !))))) (26 ∷ 29 ∷ 27 ∷ 32 ∷ []) refl (λ e-is.
+      asks ! 𝓣 refusal-shape (refusal.clauses 𝓤 H A mem run) known-refusal (ν ∷ [], (κs .1 .0, tt))
+      (fullShare, (qs .1 .0, tt)) tt
+      (under x δ im, (x₁, (length ans, (length ys, tt))))
+      (val x ∷ [], (val x₁ ∷ [], (vint w64 (length ans) ∷ [], (vint w64 (length ys) ∷ [], tt)))) tt
+      ((refl, room₂ .0), ((refl, room₃ .0), tt)) (id⊢ 𝓤 _) (λ r ws. r ≡ e) (λ r ws. id⊢ 𝓤 _) e
+      (tt, (tt, (tt, (tt, tt)))) (λ r ws p. (p, refl))
+      (also ! refl (also ! refl (also ! refl (also ! refl (no-more !))))) (26 ∷ 29 ∷ 27 ∷ 32 ∷ []) refl (λ e-is _.
       lands-new ! refl (tt, record { fits = e-is .1 }) $
       move ! (31 ∷ 26 ∷ []) $ shares-back ! tt u8 (κs .0) (qs .0) (to x im) (length im) refl room ν $
       move ! (1 ∷ 32 ∷ 28 ∷ 29 ∷ 0 ∷ 34 ∷ 30 ∷ 31 ∷ []) $ lowers ! 8 26 $ move ! (34 ∷ []) $ drop ! $
@@ -149,46 +170,64 @@ module _ {M : Type 1} (𝓤 : URA M) (H : Heap 𝓤) (A : Atoms 𝓤) (W : Given
       asks ! 𝓣 served-shape (served.clauses 𝓤 H A mem run) known-served (ν′ ∷ [], tt) (fullShare, tt) tt
       (under x δ′ im, (length ys, tt)) (val x ∷ [], (vint w64 (length ys) ∷ [], tt)) tt ((refl, room₃ .0), tt) (id⊢ 𝓤 _)
       (λ m ws. m ≡ c) (λ m ws. id⊢ 𝓤 _) c (tt, (tt, tt)) (λ m ws p. (p, refl))
-      (also ! refl (also ! refl (no-more !))) (26 ∷ 27 ∷ []) refl (λ _. lands-new ! refl (tt, record { fits = c-is .1 }) $
-      move ! (33 ∷ 26 ∷ []) $ shares-back ! tt u8 (κs .0) (qs .0) (to x im) (length im) refl room ν′ $ move ! (34 ∷ []) $ drop ! $ lowers ! 2 26 $
+      (also ! refl (also ! refl (no-more !))) (26 ∷ 27 ∷ []) refl
+      (λ _ _. lands-new ! refl (tt, record { fits = c-is .1 }) $
+      move ! (33 ∷ 26 ∷ []) $ shares-back ! tt u8 (κs .0) (qs .0) (to x im) (length im) refl room ν′ $
+      move ! (34 ∷ []) $ drop ! $ lowers ! 2 26 $
       asks ! 𝓣 waiting-shape (waiting.clauses 𝓤 H A mem run) known-waiting tt tt tt tt tt tt tt (id⊢ 𝓤 _)
       (λ w ws. w ≡ waitingState) (λ w ws. id⊢ 𝓤 _) waitingState tt (λ w ws p. (p, refl))
-      (no-more !) [] refl (λ is. lands-new ! refl (typed 𝓤 H A W waitingState (mach waitingState) is) $
+      (no-more !) [] refl (λ is _. lands-new ! refl (typed 𝓤 H A W waitingState (mach waitingState) is) $
       -- `fill`: the lines are lent to it. Behind the locals: [the image; the tokens; the trace; the answers; the lines]
       again ! refl refl refl refl tt (refl, refl, refl) tt (room₃ .0) $
-      move ! (33 ∷ 30 ∷ []) $ lends ! tt R (κs .1 .1 .1 .0) (qs .1 .1 .1 .0) (to x₃ ys) (length ys) refl (λ μ ε. lowers ! 3 26 $
-      asks ! 𝓣 fill-shape (fill.clauses 𝓤 H A mem run) known-fill (μ ∷ [], tt) (fullShare, tt) tt (under x₃ ε ys, (c, (waitingState, tt)))
+      move ! (33 ∷ 30 ∷ []) $ lends ! tt R (κs .1 .1 .1 .0) (qs .1 .1 .1 .0) (to x₃ ys) (length ys) refl
+      (λ μ ε. lowers ! 3 26 $
+      asks ! 𝓣 fill-shape (fill.clauses 𝓤 H A mem run) known-fill (μ ∷ [], tt) (fullShare, tt) tt
+      (under x₃ ε ys, (c, (waitingState, tt)))
       (val x₃ ∷ [], (vint w64 c ∷ [], (mach waitingState ∷ [], tt))) tt (c-is, (is, tt)) (factI 𝓤 _ (emp 𝓤) few)
-      (λ r zs. zs .0 ≡ us) (λ r zs. id⊢ 𝓤 _) tt (us, (tt, (tt, tt))) (λ r zs p. (refl, ap (λ (z : List LineState). (z, (tt, (tt, tt)))) p))
-      (also ! refl (also ! refl (also ! refl (no-more !)))) (26 ∷ 27 ∷ []) refl (λ _. lands-new ! refl (tt, tt) $
-      move ! (33 ∷ 26 ∷ 34 ∷ []) $ backs ! tt R (κs .1 .1 .1 .0) (qs .1 .1 .1 .0) (to x₃ ys) (length ys) refl room₃ μ ε us $ lowers ! 2 26 $
+      (λ r zs. zs .0 ≡ us) (λ r zs. id⊢ 𝓤 _) tt (us, (tt, (tt, tt)))
+      (λ r zs p. (refl, ap (λ (z : List LineState). (z, (tt, (tt, tt)))) p))
+      (also ! refl (also ! refl (also ! refl (no-more !)))) (26 ∷ 27 ∷ []) refl (λ _ _. lands-new ! refl (tt, tt) $
+      move ! (33 ∷ 26 ∷ 34 ∷ []) $ backs ! tt R (κs .1 .1 .1 .0) (qs .1 .1 .1 .0) (to x₃ ys) (length ys) refl room₃ μ ε
+      us $ lowers ! 2 26 $
       -- `run_events`: the image, the answers and the lines are lent to it
       again ! refl refl refl refl tt (refl, refl, refl) tt (room .0) $
       again ! refl refl refl refl tt (refl, refl, refl) tt (room₂ .0) $
       again ! refl refl refl refl tt (refl, refl, refl) tt (room₃ .0) $
       move ! (28 ∷ 29 ∷ []) $ lends ! tt u8 (κs .0) (qs .0) (to x im) (length im) refl (λ α β.
       move ! (34 ∷ 32 ∷ []) $ lends ! tt u8 (κs .1 .1 .0) (qs .1 .1 .0) (to x₂ ans) (length ans) refl (λ α₂ β₂.
-      move ! (32 ∷ 33 ∷ []) $ lends ! tt R (κs .1 .1 .1 .0) (qs .1 .1 .1 .0) (to x₃ us) (length ys) same (λ α₃ β₃. lowers ! 9 26 $
+      move ! (32 ∷ 33 ∷ []) $ lends ! tt R (κs .1 .1 .1 .0) (qs .1 .1 .1 .0) (to x₃ us) (length ys) same
+      (λ α₃ β₃. lowers ! 9 26 $
       asks-last ! 𝓣 run-events-shape (run-events.clauses 𝓤 H A mem run) known-run-events
       (α ∷ [], (κs .1 .0, (α₂ ∷ [], (α₃ ∷ [], tt)))) (fullShare, (qs .1 .0, (fullShare, (fullShare, tt)))) tt
       (under x β im, (x₁, (under x₂ β₂ ans, (under x₃ β₃ us, (c, tt)))))
-      (val x ∷ [], (val x₁ ∷ [], (val x₂ ∷ [], (val x₃ ∷ [], (vint w64 c ∷ [], tt))))) tt (c-is, tt) (factI 𝓤 _ (emp 𝓤) (asked none))
+      (val x ∷ [], (val x₁ ∷ [], (val x₂ ∷ [], (val x₃ ∷ [], (vint w64 c ∷ [], tt))))) tt (c-is, tt)
+      (factI 𝓤 _ (emp 𝓤) (asked none))
       (λ r zs. runState (zs .0) (zs .1 .1 .0) (zs .1 .1 .1 .0) ≡ done) (λ r zs. id⊢ 𝓤 _)
       tt (done .image, (tt, (done .answers, (done .lines, (tt, tt)))))
-      (λ r zs p. (refl, each (ap (λ (s : RunState). s .image) p) (ap (λ (s : RunState). s .answers) p) (ap (λ (s : RunState). s .lines) p)))
-      (also ! refl (also ! refl (also ! refl (also ! refl (also ! refl (no-more !)))))) (32 ∷ 35 ∷ 29 ∷ 26 ∷ 33 ∷ 36 ∷ 30 ∷ 27 ∷ []) refl (λ _.
+      (λ r zs p. (
+        refl,
+        each (ap (λ (s : RunState). s .image) p) (ap (λ (s : RunState). s .answers) p)
+            (ap (λ (s : RunState). s .lines) p),
+      ))
+      (also ! refl (also ! refl (also ! refl (also ! refl (also ! refl (no-more !))))))
+      (32 ∷ 35 ∷ 29 ∷ 26 ∷ 33 ∷ 36 ∷ 30 ∷ 27 ∷ []) refl (λ _ _.
       move ! (29 ∷ 28 ∷ 33 ∷ []) $ backs ! tt u8 (κs .0) (qs .0) (to x im) (length im) refl room α β (done .image) $
-      move ! (31 ∷ 29 ∷ 34 ∷ []) $ backs ! tt u8 (κs .1 .1 .0) (qs .1 .1 .0) (to x₂ ans) (length ans) refl room₂ α₂ β₂ (done .answers) $
-      move ! (32 ∷ 30 ∷ 34 ∷ []) $ backs ! tt R (κs .1 .1 .1 .0) (qs .1 .1 .1 .0) (to x₃ us) (length ys) same room₃ α₃ β₃ (done .lines) $
+      move ! (31 ∷ 29 ∷ 34 ∷ []) $ backs ! tt u8 (κs .1 .1 .0) (qs .1 .1 .0) (to x₂ ans) (length ans) refl room₂ α₂ β₂
+      (done .answers) $
+      move ! (32 ∷ 30 ∷ 34 ∷ []) $ backs ! tt R (κs .1 .1 .1 .0) (qs .1 .1 .1 .0) (to x₃ us) (length ys) same room₃ α₃
+      β₃ (done .lines) $
       move ! (5 ∷ 32 ∷ 3 ∷ 1 ∷ 4 ∷ 33 ∷ 2 ∷ 0 ∷ []) $ lowers ! 8 26 $ ends-renew ! refl (tt, tt) $ on _ (
-      leaves bs (has (vint w64 c) ∷ has (mach waitingState) ∷ has (ptr x) ∷ has (val x) ∷ has (vint w64 (length ans)) ∷ has (vint w64 (length ys))
-      ∷ has (vbool (eqb e 0)) ∷ has (ptr x) ∷ has (val x) ∷ has (vint w64 (length ys)) ∷ has vunit ∷ has (ptr x₃) ∷ has (val x₃)
+      leaves bs (has (vint w64 c) ∷ has (mach waitingState) ∷ has (ptr x) ∷ has (val x) ∷ has (vint w64 (length ans))
+      ∷ has (vint w64 (length ys))
+      ∷ has (vbool (eqb e 0)) ∷ has (ptr x) ∷ has (val x) ∷ has (vint w64 (length ys)) ∷ has vunit ∷ has (ptr x₃)
+      ∷ has (val x₃)
       ∷ has (ptr x) ∷ has (val x) ∷ has (ptr x₂) ∷ has (val x₂) ∷ has (ptr x₃) ∷ has (val x₃) ∷ [])
       (done .image) (done .answers) (done .lines) e-is (ran none) (events-image-length tr c (length tr) start)
       (events-answers-length tr c (length tr) start) (events-lines-length tr c (length tr) start ∙ same))))))))))))
       -- it is refused
       (λ Q on failed. skips ! $ on _ (
-      leaves bs (void ∷ void ∷ has (ptr x) ∷ has (val x) ∷ has (vint w64 (length ans)) ∷ has (vint w64 (length ys)) ∷ has (vbool (eqb e 0)) ∷ [])
+      leaves bs (void ∷ void ∷ has (ptr x) ∷ has (val x) ∷ has (vint w64 (length ans)) ∷ has (vint w64 (length ys))
+      ∷ has (vbool (eqb e 0)) ∷ [])
       im ans ys e-is (run-refused tr im ans ys failed) refl refl refl)))))
 
 pub run-spec : {M : Type 1} → stated.statement M
@@ -199,7 +238,9 @@ run-spec 𝓤 H 𝓜 𝓖 𝓡 =
     (λ κs qs bounds a g. walk 𝓤 H (𝓖 .A) (givenOf 𝓤 H 𝓜 𝓖) (𝓜 .mem) (𝓡 .run) (tablesOf 𝓤 H 𝓜 (tables 𝓤 H 𝓜 𝓡 code.env))
     (cited 𝓤 H _ 𝓜 𝓡 code.env #bus·refusal refusal-def.routine code.calls-bus·refusal (refusal-thm.met 𝓤 H 𝓜 𝓖 𝓡))
     (cited 𝓤 H _ 𝓜 𝓡 code.env #bus·served served-def.routine code.calls-bus·served (served-thm.met 𝓤 H 𝓜 𝓖 𝓡))
-    (cited 𝓤 H _ 𝓜 𝓡 code.env #device·waiting waiting-def.routine code.calls-device·LineState·waiting (waiting-thm.met 𝓤 H 𝓜 𝓖 𝓡))
+    (cited 𝓤 H _ 𝓜 𝓡 code.env #device·waiting waiting-def.routine code.calls-device·LineState·waiting
+    (waiting-thm.met 𝓤 H 𝓜 𝓖 𝓡))
     (cited 𝓤 H _ 𝓜 𝓡 code.env #bus·fill fill-def.routine code.calls-bus·fill (fill-thm.met 𝓤 H 𝓜 𝓖 𝓡))
-    (cited 𝓤 H _ 𝓜 𝓡 code.env #bus·run-events run-events-def.routine code.calls-bus·run-events (run-events-thm.met 𝓤 H 𝓜 𝓖 𝓡))
+    (cited 𝓤 H _ 𝓜 𝓡 code.env #bus·run-events run-events-def.routine code.calls-bus·run-events
+    (run-events-thm.met 𝓤 H 𝓜 𝓖 𝓡))
     κs qs (a .0) (a .1 .0) (a .1 .1 .0) (a .1 .1 .1 .0))

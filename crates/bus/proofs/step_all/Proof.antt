@@ -1,16 +1,19 @@
--- `bus::step_all` meets its contract: a walk of its MIR, with a loop that asks `state_after` of each device and stores its line state.
--- The lines' borrow is opened once, before the loop, and closed once, after it. The image is held closed, and each call is passed a copy of it.
--- The line states after i turns are `steps .. i` (`States.antt`), by recursion on i; after all they are `statesAfter` (`steps-all`).
+-- `bus::step_all` meets its contract: a walk of its MIR, with a loop that asks `state_after` of each device and stores
+-- its line state.
+-- The lines' borrow is opened once, before the loop, and closed once, after it. The image is held closed, and each call
+-- is passed a copy of it.
+-- The line states after i turns are `steps .. i` (`States.antt`), by recursion on i; after all they are `statesAfter`
+-- (`steps-all`).
 -- All that it knows of its callees is that each meets its contract.
--- Assumes nothing.
+-- Assumes nothing. `Walk.antt` of `walks` says how a walk is written.
 use Rattle.walks.proofs.Walk.{_≡_, refl, sym, subst, ℕ, _<_, _≤_, _+_, _*_, _^_, arith, [], _∷_, List, length, lit<}
-use Rattle.walks.proofs.Walk.{URA, fullShare, named, w8, w64, Val, vunit, vint, vbool, SProp, emp, id⊢, flft, Fun}
-use Rattle.walks.proofs.Walk.{factI, Lfts, Shares, givenOf, tables, tablesOf, Memory, Routine, Heap, Tables, Atoms}
-use Rattle.walks.proofs.Walk.{Given, Item, ‵, _$_, !, move, look, forget, stop, hop, from, lit, unit-lit, of-opd}
-use Rattle.walks.proofs.Walk.{no-more, bin, assigns, returns, Is, u8, RefT, sliceVal, ShrSlice, Room, row, cited, Cell}
-use Rattle.walks.proofs.Walk.{void, has, Blocks, env, stand, quits, lowers, Walk, Met, enters, asks, finishes, proved}
-use Rattle.walks.proofs.Walk.{var, head, count, new, renew, bump, whiles, points, lands-new, Opened, opens-mut}
-use Rattle.walks.proofs.Walk.{closes-mut, also, sees, in-row, elem, onto-row}
+use Rattle.walks.proofs.Walk.{URA, fullShare, named, w8, w64, vunit, vint, vbool, SProp, emp, id⊢, flft, Fun, factI}
+use Rattle.walks.proofs.Walk.{Lfts, Shares, givenOf, tables, tablesOf, Memory, Routine, Heap, Tables, Atoms, Given}
+use Rattle.walks.proofs.Walk.{Item, ‵, _$_, !, move, look, forget, stop, hop, from, lit, unit-lit, of-opd, no-more, bin}
+use Rattle.walks.proofs.Walk.{assigns, returns, Is, u8, RefT, ShrSlice, Room, row, cited, Cell, void, has, Blocks, env}
+use Rattle.walks.proofs.Walk.{stand, quits, lowers, Walk, Met, enters, asks, finishes, proved, var, head, count, new}
+use Rattle.walks.proofs.Walk.{renew, bump, whiles, ptr, val, points, lands-new, Opened, opens-mut, closes-mut, also}
+use Rattle.walks.proofs.Walk.{sees, in-row, elem, onto-row}
 use mathlib.Core.Bool.{Bool}
 use Rattle.device.specs.declared.LineState.{LineState}
 use Rattle.device.specs.Device.{waitingState}
@@ -32,7 +35,8 @@ use Rattle.bus.proofs.step_all as step-all
 use Rattle.bus.proofs.step_all.Statement as stated
 use Rattle.bus.proofs.step_all.Code as code
 
-module _ {M : Type 1} (𝓤 : URA M) (H : Heap 𝓤) (A : Atoms 𝓤) (W : Given 𝓤 H A) (mem : Memory → SProp 𝓤) (run : Routine → Fun 𝓤)
+module _ {M : Type 1} (𝓤 : URA M) (H : Heap 𝓤) (A : Atoms 𝓤) (W : Given 𝓤 H A) (mem : Memory → SProp 𝓤)
+    (run : Routine → Fun 𝓤)
     (𝓣 : Tables 𝓤 H)
     (known-served : Met 𝓤 H A 𝓣 served-shape (served.clauses 𝓤 H A mem run) #bus·served)
     (known-state-after : Met 𝓤 H A 𝓣 state-after-shape (state-after.clauses 𝓤 H A mem run) #bus·state-after)
@@ -49,13 +53,6 @@ module _ {M : Type 1} (𝓤 : URA M) (H : Heap 𝓤) (A : Atoms 𝓤) (W : Given
   abbrev o : ℕ
   o = x′ .ptr .1
 
-  -- the machine values of the slices
-  abbrev s : Val
-  s = sliceVal (x .ptr) (length im)
-
-  abbrev s′ : Val
-  s′ = sliceVal (b, o) (length ys)
-
   -- how many devices there are, the line states after i turns, that of device i, and what `state_after` returns of it
   abbrev n : ℕ
   n = servedOf im (length ys)
@@ -71,14 +68,17 @@ module _ {M : Type 1} (𝓤 : URA M) (H : Heap 𝓤) (A : Atoms 𝓤) (W : Given
 
   -- the locals after i turns, and behind them [the row; the open borrow; the image's token; the image]
   abbrev vs : ℕ → List Cell
-  vs i = has s ∷ has s′ ∷ has (vint w8 v) ∷ has (vbool t) ∷ has (vint w64 n) ∷ has (vint w64 i) ∷ void ∷ void ∷ has (vint w64 (length ys)) ∷ []
+  vs i = has (val x) ∷ has (val x′) ∷ has (vint w8 v) ∷ has (vbool t) ∷ has (vint w64 n) ∷ has (vint w64 i) ∷ void
+      ∷ void
+      ∷ has (vint w64 (length ys)) ∷ []
 
   abbrev At : Blocks (code.function .locals) → ℕ → List (Item 𝓤)
   At bs i = stand (env 𝓤 H (code.function .locals) bs) (void ∷ vs i)
       (‵ (row R fullShare (st i) b o) ∷ ‵ (Opened R (κs .1 .0) (qs .1 .0) (x′ .name) ys b o)
-      ∷ ‵ (flft (κs .0) (qs .0)) ∷ ‵ (ShrSlice (named 0) (κs .0) u8 .own x (s ∷ [])) ∷ [])
+      ∷ ‵ (flft (κs .0) (qs .0)) ∷ ‵ (ShrSlice (named 0) (κs .0) u8 .own x (val x ∷ [])) ∷ [])
 
-  walk : Walk 𝓤 H shape A W (step-all.clauses 𝓤 H A mem run) (λ κs a. Unit {0}) 𝓣 code.function κs qs tt (x, (x′, (v, (t, tt)))) tt
+  walk : Walk 𝓤 H shape A W (step-all.clauses 𝓤 H A mem run) (λ κs a. Unit {0}) 𝓣 code.function κs qs tt
+      (x, (x′, (v, (t, tt)))) tt
   unfolding steps
   walk are _ =
       let room : Room R (length ys) = are .1 .0 .0 .1 in
@@ -88,9 +88,10 @@ module _ {M : Type 1} (𝓤 : URA M) (H : Heap 𝓤) (A : Atoms 𝓤) (W : Given
       enters ! shape κs (x, (x′, (v, (t, tt)))) 𝓣 code.function are refl (λ bs.
       new ! (of-opd ! (count ! refl refl)) refl (tt, record { fits = room .0 }) $
       asks ! 𝓣 served-shape (served.clauses 𝓤 H A mem run) known-served (κs .0, tt) (qs .0, tt) tt
-      (x, (length ys, tt)) (s ∷ [], (vint w64 (length ys) ∷ [], tt)) tt ((refl, room .0), tt) (id⊢ 𝓤 _)
+      (x, (length ys, tt)) (val x ∷ [], (vint w64 (length ys) ∷ [], tt)) tt ((refl, room .0), tt) (id⊢ 𝓤 _)
       (λ m ws. m ≡ n) (λ m ws. id⊢ 𝓤 _) n (tt, (tt, tt)) (λ m ws e. (e, refl))
-      (also ! refl (also ! refl (no-more !))) (16 ∷ 18 ∷ []) refl (λ _. lands-new ! refl (tt, record { fits = n-fits }) $
+      (also ! refl (also ! refl (no-more !))) (16 ∷ 18 ∷ []) refl
+      (λ _ _. lands-new ! refl (tt, record { fits = n-fits }) $
       new ! (of-opd ! (lit ! tt)) refl (tt, record { fits = lit< tt }) $
       move ! (17 ∷ 16 ∷ []) $ opens-mut ! tt R (κs .1 .0) x′ $ lowers ! 2 16 $
       whiles ! 𝓣 n (At bs) (λ i. var ! refl) (λ i. var ! refl) refl (λ i. refl) (λ i t. refl) (λ i t. refl)
@@ -101,25 +102,31 @@ module _ {M : Type 1} (𝓤 : URA M) (H : Heap 𝓤) (A : Atoms 𝓤) (W : Given
       let at-fits : i * width < 2 ^ 64 = fits-at i (length ys) (room .1) there in
       let next-fits : i + 1 < 2 ^ 64 = fits-next i n n-fits small in
       new ! (bin ! (var ! refl) (lit ! tt) (record { fits = at-fits })) refl (tt, record { fits = at-fits }) $
-      points ! width i (head ! refl refl) (var ! refl) refl tt $ sees ! line 16 fullShare (st i) i waitingState b o within refl (λ is.
-      new ! (of-opd ! (elem ! refl (in-row ! line 16 fullShare (st i) i waitingState b o within refl refl))) refl (typed 𝓤 H A W (l i) (mach (l i)) is) $
+      points ! width i (head ! refl refl) (var ! refl) refl tt $
+      sees ! line 16 fullShare (st i) i waitingState b o within refl (λ is.
+      new ! (of-opd ! (elem ! refl (in-row ! line 16 fullShare (st i) i waitingState b o within refl refl))) refl
+      (typed 𝓤 H A W (l i) (mach (l i)) is) $
       new ! (of-opd ! (var ! refl)) refl (typed 𝓤 H A W (l i) (mach (l i)) is) $
-      asks ! 𝓣 state-after-shape (state-after.clauses 𝓤 H A mem run) known-state-after (κs .0, tt) (qs .0, tt) tt (x, (i, (l i, (v, (t, tt)))))
-      (s ∷ [], (vint w64 i ∷ [], (mach (l i) ∷ [], (vint w8 v ∷ [], (vbool t ∷ [], tt))))) tt
+      asks ! 𝓣 state-after-shape (state-after.clauses 𝓤 H A mem run) known-state-after (κs .0, tt) (qs .0, tt) tt
+      (x, (i, (l i, (v, (t, tt)))))
+      (val x ∷ [], (vint w64 i ∷ [], (mach (l i) ∷ [], (vint w8 v ∷ [], (vbool t ∷ [], tt))))) tt
       ((refl, omega (arith, next-fits)), (is, (v-is, (refl, tt)))) (id⊢ 𝓤 _) (λ h ws. h ≡ r i) (λ h ws. id⊢ 𝓤 _)
       (r i) (tt, (tt, (tt, (tt, (tt, tt))))) (λ h ws e. (e, refl))
-      (also ! refl (also ! refl (also ! refl (also ! refl (also ! refl (no-more !)))))) (18 ∷ 19 ∷ []) refl (λ got.
+      (also ! refl (also ! refl (also ! refl (also ! refl (also ! refl (no-more !)))))) (18 ∷ 19 ∷ []) refl (λ got _.
       lands-new ! refl (typed 𝓤 H A W (r i) (mach (r i)) got) $
       renew ! (bin ! (var ! refl) (lit ! tt) (record { fits = at-fits })) refl (tt, record { fits = at-fits }) $
       points ! width i (head ! refl refl) (var ! refl) refl tt $
       assigns ! (of-opd ! (var ! refl)) (from ! (hop ! (look ! 14 refl) (stop !)))
       (onto-row ! line 16 (st i) i waitingState (r i) b o within refl refl got (typed 𝓤 H A W (r i) (mach (r i)) got)) $
-      bump ! refl next-fits tt $ forget ! 7 refl $ forget ! 8 refl $ forget ! 10 refl $ forget ! 11 refl $ forget ! 12 refl $ forget ! 13 refl $ forget ! 14 refl $ k)))
+      bump ! refl next-fits tt $ forget ! 7 refl $ forget ! 8 refl $ forget ! 10 refl $ forget ! 11 refl $
+      forget ! 12 refl $ forget ! 13 refl $ forget ! 14 refl $ k)))
       -- the loop is left: the borrow is closed, and the function returns
       (new ! (of-opd ! (unit-lit !)) refl (tt, tt) $
-      move ! (16 ∷ 17 ∷ []) $ closes-mut ! tt R (κs .1 .0) (x′ .name) ys (st n) (steps-length im v t n ys) b o room $ lowers ! 2 16 $
+      move ! (16 ∷ 17 ∷ []) $ closes-mut ! tt R (κs .1 .0) (x′ .name) ys (st n) (steps-length im v t n ys) b o room $
+      lowers ! 2 16 $
       returns ! (look ! 0 refl) $ quits ! (has vunit ∷ vs n) $ move ! (2 ∷ 1 ∷ 3 ∷ 0 ∷ []) $
-      finishes 𝓤 H shape A (step-all.clauses 𝓤 H A mem run) κs qs tt (x, (x′, (v, (t, tt)))) tt W ! tt (tt, (st n, (tt, (tt, tt)))) refl
+      finishes 𝓤 H shape A (step-all.clauses 𝓤 H A mem run) κs qs tt (x, (x′, (v, (t, tt)))) tt W ! tt
+      (tt, (st n, (tt, (tt, tt)))) refl
       (v-is, (refl, tt)) (tt, (steps-length im v t n ys, (tt, (tt, tt)))) (factI 𝓤 _ (emp 𝓤) (steps-all im v t ys)))))
 
 pub step-all-spec : {M : Type 1} → stated.statement M
@@ -129,5 +136,6 @@ step-all-spec 𝓤 H 𝓜 𝓖 𝓡 =
     𝓜 𝓡 code.env #bus·step-all code.function (code.unfolded 𝓤 H 𝓜 𝓡) (λ κs a g. factI 𝓤 (Unit {0}) (emp 𝓤) tt)
     (λ κs qs bounds a g. walk 𝓤 H (𝓖 .A) (givenOf 𝓤 H 𝓜 𝓖) (𝓜 .mem) (𝓡 .run) (tablesOf 𝓤 H 𝓜 (tables 𝓤 H 𝓜 𝓡 code.env))
     (cited 𝓤 H _ 𝓜 𝓡 code.env #bus·served served-def.routine code.calls-bus·served (served-thm.met 𝓤 H 𝓜 𝓖 𝓡))
-    (cited 𝓤 H _ 𝓜 𝓡 code.env #bus·state-after state-after-def.routine code.calls-bus·state-after (state-after-thm.met 𝓤 H 𝓜 𝓖 𝓡))
+    (cited 𝓤 H _ 𝓜 𝓡 code.env #bus·state-after state-after-def.routine code.calls-bus·state-after
+    (state-after-thm.met 𝓤 H 𝓜 𝓖 𝓡))
     κs qs (a .0) (a .1 .0) (a .1 .1 .0) (a .1 .1 .1 .0))

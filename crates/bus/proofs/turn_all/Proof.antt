@@ -1,16 +1,19 @@
--- `bus::turn_all` meets its contract: a walk of its MIR, with a loop that lends the image on to `turn` and stores each line state.
--- The lines' borrow is opened once, before the loop, and closed once, after it. The image is held closed, and in each turn it is lent again for a lifetime of the call, and comes back.
--- The state after i turns is `turns v t i` of the state on entry (`specs/Loops.antt`), by recursion on i, so the invariant holds at i + 1 by computation.
+-- `bus::turn_all` meets its contract: a walk of its MIR, with a loop that lends the image on to `turn` and stores each
+-- line state.
+-- The lines' borrow is opened once, before the loop, and closed once, after it. The image is held closed, and in each
+-- turn it is lent again for a lifetime of the call, and comes back.
+-- The state after i turns is `turns v t i` of the state on entry (`specs/Loops.antt`), by recursion on i, so the
+-- invariant holds at i + 1 by computation.
 -- All that it knows of `turn` is that it meets its contract.
--- Assumes nothing.
+-- Assumes nothing. `Walk.antt` of `walks` says how a walk is written.
 use Rattle.walks.proofs.Walk.{_≡_, refl, sym, ap, subst, ℕ, suc, _<_, _≤_, _+_, _*_, _^_, arith, [], _∷_, List, length}
-use Rattle.walks.proofs.Walk.{lit<, URA, fullShare, named, w8, w64, Val, vunit, vint, vbool, SProp, emp, id⊢, flft, Fun}
+use Rattle.walks.proofs.Walk.{lit<, URA, fullShare, named, w8, w64, vunit, vint, vbool, SProp, emp, id⊢, flft, Fun}
 use Rattle.walks.proofs.Walk.{factI, Lfts, Shares, givenOf, tables, tablesOf, Memory, Routine, Heap, Tables, Atoms}
 use Rattle.walks.proofs.Walk.{Given, Item, ‵, _$_, !, move, look, forget, stop, hop, from, lit, unit-lit, of-opd}
-use Rattle.walks.proofs.Walk.{no-more, bin, assigns, returns, Is, u8, u64, RefT, sliceVal, MutSlice, Room, row, cited}
-use Rattle.walks.proofs.Walk.{Cell, void, has, Blocks, env, stand, quits, lowers, Walk, Met, enters, asks, finishes}
-use Rattle.walks.proofs.Walk.{proved, var, head, new, renew, bump, whiles, points, again, lands-new, Opened, opens-mut}
-use Rattle.walks.proofs.Walk.{closes-mut, also, lends, backs, sees, in-row, elem, onto-row}
+use Rattle.walks.proofs.Walk.{no-more, bin, assigns, returns, Is, u8, u64, RefT, MutSlice, Room, row, cited, Cell, void}
+use Rattle.walks.proofs.Walk.{has, Blocks, env, stand, quits, lowers, Walk, Met, enters, asks, finishes, proved, var}
+use Rattle.walks.proofs.Walk.{head, new, renew, bump, whiles, to, under, ptr, val, points, again, lands-new, Opened}
+use Rattle.walks.proofs.Walk.{opens-mut, closes-mut, also, lends, backs, sees, in-row, elem, onto-row}
 use mathlib.Core.Bool.{Bool}
 use Rattle.device.specs.declared.LineState.{LineState}
 use Rattle.device.specs.Device.{waitingState}
@@ -30,7 +33,8 @@ use Rattle.bus.proofs.turn_all.Code as code
 abbrev Ask : (κs : Lfts 2) → RefT (List ℕ) × (RefT (List LineState) × (ℕ × (ℕ × (Bool × Unit {0})))) → Type 0
 Ask κs a = a .1 .1 .0 ≤ length (a .1 .0 .now)
 
-module _ {M : Type 1} (𝓤 : URA M) (H : Heap 𝓤) (A : Atoms 𝓤) (W : Given 𝓤 H A) (mem : Memory → SProp 𝓤) (run : Routine → Fun 𝓤)
+module _ {M : Type 1} (𝓤 : URA M) (H : Heap 𝓤) (A : Atoms 𝓤) (W : Given 𝓤 H A) (mem : Memory → SProp 𝓤)
+    (run : Routine → Fun 𝓤)
     (𝓣 : Tables 𝓤 H)
     (known-turn : Met 𝓤 H A 𝓣 turn-shape (turn.clauses 𝓤 H A mem run) #bus·turn)
     (κs : Lfts 2) (qs : Shares 2) (x : RefT (List ℕ)) (x′ : RefT (List LineState)) (n v : ℕ) (t : Bool) where
@@ -46,13 +50,6 @@ module _ {M : Type 1} (𝓤 : URA M) (H : Heap 𝓤) (A : Atoms 𝓤) (W : Given
   abbrev m : ℕ
   m = length (x .now)
 
-  -- the machine values of the slices
-  abbrev s : Val
-  s = sliceVal (x .ptr .0, x .ptr .1) m
-
-  abbrev s′ : Val
-  s′ = sliceVal (b, o) (length ys)
-
   -- the state on entry and after i turns, the line state of device i, and what `turn` returns of it
   abbrev entry : BusState
   entry = busState (x .now) ys
@@ -66,20 +63,17 @@ module _ {M : Type 1} (𝓤 : URA M) (H : Heap 𝓤) (A : Atoms 𝓤) (W : Given
   abbrev r : ℕ → LineState
   r i = turnState (st i .image) i (l i) v t
 
-  -- the image after i turns
-  abbrev im : ℕ → RefT (List ℕ)
-  im i = record { ptr = (x .ptr .0, x .ptr .1); name = x .name; now = st i .image }
-
   -- the locals after i turns, and behind them [the row; the open borrow; the image's token; the image]
   abbrev vs : ℕ → List Cell
-  vs i = has s ∷ has s′ ∷ has (vint w64 n) ∷ has (vint w8 v) ∷ has (vbool t) ∷ has (vint w64 i) ∷ []
+  vs i = has (val x) ∷ has (val x′) ∷ has (vint w64 n) ∷ has (vint w8 v) ∷ has (vbool t) ∷ has (vint w64 i) ∷ []
 
   abbrev At : Blocks (code.function .locals) → ℕ → List (Item 𝓤)
   At bs i = stand (env 𝓤 H (code.function .locals) bs) (void ∷ vs i)
       (‵ (row R fullShare (st i .lines) b o) ∷ ‵ (Opened R (κs .1 .0) (qs .1 .0) (x′ .name) ys b o)
-      ∷ ‵ (flft (κs .0) (qs .0)) ∷ ‵ (MutSlice (named 0) (κs .0) u8 .own (im i) (s ∷ [])) ∷ [])
+      ∷ ‵ (flft (κs .0) (qs .0)) ∷ ‵ (MutSlice (named 0) (κs .0) u8 .own (to x (st i .image)) (val x ∷ [])) ∷ [])
 
-  walk : Walk 𝓤 H shape A W (turn-all.clauses 𝓤 H A mem run) Ask 𝓣 code.function κs qs tt (x, (x′, (n, (v, (t, tt))))) tt
+  walk : Walk 𝓤 H shape A W (turn-all.clauses 𝓤 H A mem run) Ask 𝓣 code.function κs qs tt (x, (x′, (n, (v, (t, tt)))))
+      tt
   unfolding turns turnAt
   walk are few =
       let room : Room u8 m = are .0 .0 .1 in
@@ -97,36 +91,45 @@ module _ {M : Type 1} (𝓤 : URA M) (H : Heap 𝓤) (A : Atoms 𝓤) (W : Given
       let at-fits : i * width < 2 ^ 64 = fits-at i (length ys) (room′ .1) there in
       let next-fits : i + 1 < 2 ^ 64 = fits-next i n (n-is .1) small in
       new ! (bin ! (var ! refl) (lit ! tt) (record { fits = at-fits })) refl (tt, record { fits = at-fits }) $
-      points ! width i (head ! refl refl) (var ! refl) refl tt $ sees ! line 17 fullShare (st i .lines) i waitingState b o within refl (λ is.
+      points ! width i (head ! refl refl) (var ! refl) refl tt $
+      sees ! line 17 fullShare (st i .lines) i waitingState b o within refl (λ is.
       new ! (of-opd ! (elem ! refl (in-row ! line 17 fullShare (st i .lines) i waitingState b o within refl refl))) refl
       (typed 𝓤 H A W (l i) (mach (l i)) is) $
       new ! (of-opd ! (var ! refl)) refl (typed 𝓤 H A W (l i) (mach (l i)) is) $
       again ! refl refl refl refl tt (refl, refl, refl) tt (room .0) $
-      move ! (20 ∷ 19 ∷ []) $ lends ! tt u8 (κs .0) (qs .0) (im i) m (turns-image-length v t i entry) (λ ν δ. lowers ! 3 17 $
+      move ! (20 ∷ 19 ∷ []) $ lends ! tt u8 (κs .0) (qs .0) (to x (st i .image)) m (turns-image-length v t i entry)
+      (λ ν δ. lowers ! 3 17 $
       asks ! 𝓣 turn-shape (turn.clauses 𝓤 H A mem run) known-turn (ν ∷ [], tt) (fullShare, tt) tt
-      (record { ptr = (x .ptr .0, x .ptr .1); name = δ; now = st i .image }, (i, (l i, (v, (t, tt)))))
-      (s ∷ [], (vint w64 i ∷ [], (mach (l i) ∷ [], (vint w8 v ∷ [], (vbool t ∷ [], tt))))) tt
+      (under x δ (st i .image), (i, (l i, (v, (t, tt)))))
+      (val x ∷ [], (vint w64 i ∷ [], (mach (l i) ∷ [], (vint w8 v ∷ [], (vbool t ∷ [], tt))))) tt
       ((refl, omega (arith, next-fits)), (is, (v-is, (refl, tt)))) (id⊢ 𝓤 _)
-      (λ h us. (h ≡ r i) × (us .0 ≡ st (suc i) .image)) (λ h us. id⊢ 𝓤 _) (r i) (st (suc i) .image, (tt, (tt, (tt, (tt, tt)))))
+      (λ h us. (h ≡ r i) × (us .0 ≡ st (suc i) .image)) (λ h us. id⊢ 𝓤 _) (r i)
+      (st (suc i) .image, (tt, (tt, (tt, (tt, tt)))))
       (λ h us e. (e .0, ap (λ (z : List ℕ). (z, (tt, (tt, (tt, (tt, tt)))))) (e .1)))
-      (also ! refl (also ! refl (also ! refl (also ! refl (also ! refl (no-more !)))))) (17 ∷ 18 ∷ []) refl (λ got.
+      (also ! refl (also ! refl (also ! refl (also ! refl (also ! refl (no-more !)))))) (17 ∷ 18 ∷ []) refl (λ got _.
       lands-new ! refl (typed 𝓤 H A W (r i) (mach (r i)) got) $
       -- behind the locals: [what is lent; the row; the open borrow; the call's token; what it says of the image]
-      move ! (20 ∷ 17 ∷ 21 ∷ []) $ backs ! tt u8 (κs .0) (qs .0) (im i) m (turns-image-length v t i entry) room ν δ (st (suc i) .image) $
+      move ! (20 ∷ 17 ∷ 21 ∷ []) $ backs ! tt u8 (κs .0) (qs .0) (to x (st i .image)) m (turns-image-length v t i entry)
+      room ν δ
+      (st (suc i) .image) $
       move ! (19 ∷ 20 ∷ 1 ∷ 0 ∷ []) $ lowers ! 4 17 $
       renew ! (bin ! (var ! refl) (lit ! tt) (record { fits = at-fits })) refl (tt, record { fits = at-fits }) $
       points ! width i (head ! refl refl) (var ! refl) refl tt $
       assigns ! (of-opd ! (var ! refl)) (from ! (hop ! (look ! 15 refl) (stop !)))
-      (onto-row ! line 17 (st i .lines) i waitingState (r i) b o within refl refl got (typed 𝓤 H A W (r i) (mach (r i)) got)) $
-      bump ! refl next-fits tt $ forget ! 7 refl $ forget ! 8 refl $ forget ! 9 refl $ forget ! 10 refl $ forget ! 11 refl $ forget ! 12 refl $
+      (onto-row ! line 17 (st i .lines) i waitingState (r i) b o within refl refl got
+      (typed 𝓤 H A W (r i) (mach (r i)) got)) $
+      bump ! refl next-fits tt $ forget ! 7 refl $ forget ! 8 refl $ forget ! 9 refl $ forget ! 10 refl $
+      forget ! 11 refl $ forget ! 12 refl $
       forget ! 13 refl $ forget ! 14 refl $ forget ! 15 refl $ k))))
       -- the loop is left: the borrow is closed, and the function returns
       (new ! (of-opd ! (unit-lit !)) refl (tt, tt) $
-      move ! (17 ∷ 18 ∷ []) $ closes-mut ! tt R (κs .1 .0) (x′ .name) ys (st n .lines) (turns-lines-length v t n entry) b o room′ $ lowers ! 2 17 $
+      move ! (17 ∷ 18 ∷ []) $ closes-mut ! tt R (κs .1 .0) (x′ .name) ys (st n .lines) (turns-lines-length v t n entry)
+      b o room′ $ lowers ! 2 17 $
       returns ! (look ! 0 refl) $ quits ! (has vunit ∷ vs n) $ move ! (2 ∷ 1 ∷ 3 ∷ 0 ∷ []) $
       finishes 𝓤 H shape A (turn-all.clauses 𝓤 H A mem run) κs qs tt (x, (x′, (n, (v, (t, tt))))) tt W ! tt
       (st n .image, (st n .lines, (tt, (tt, (tt, tt))))) refl (n-is, (v-is, (refl, tt)))
-      (turns-image-length v t n entry, (turns-lines-length v t n entry, (tt, (tt, (tt, tt))))) (factI 𝓤 _ (emp 𝓤) refl)))
+      (turns-image-length v t n entry, (turns-lines-length v t n entry, (tt, (tt, (tt, tt)))))
+      (factI 𝓤 _ (emp 𝓤) refl)))
 
 pub turn-all-spec : {M : Type 1} → stated.statement M
 unfolding code.routine tablesOf

@@ -37,7 +37,13 @@ returns c = simp (c .under-way .ensures, c .before .enum-told .given .1)
 
 returns-2 : tie.Need-returns-2
 unfolding memoryRange
-returns-2 c = simp (c .in-range .ensures, c .before .memory-size .ensures, c .before .before .is-sram .ensures, c .before .before .before .before .m .given .1)
+returns-2 c =
+    simp (
+      c .in-range .ensures,
+      c .before .memory-size .ensures,
+      c .before .before .is-sram .ensures,
+      c .before .before .before .before .m .given .1,
+    )
 
 returns-3 : tie.Need-returns-3
 unfolding memoryRange

@@ -27,7 +27,12 @@ same-length c = search needs
 
 returns-2 : tie.Need-returns-2
 unfolding memoryWrite
-returns-2 c = simp (c .before .before .write .ensures, c .before .before .before .before .memory-size .ensures, c .before .before .before .before .before .before .m .given .1)
+returns-2 c =
+    simp (
+      c .before .before .write .ensures,
+      c .before .before .before .before .memory-size .ensures,
+      c .before .before .before .before .before .before .m .given .1,
+    )
 
 returns-3 : tie.Need-returns-3
 unfolding memoryWrite

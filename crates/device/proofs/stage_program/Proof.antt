@@ -21,7 +21,11 @@ same-length c = search needs
 
 returns-2 : tie.Need-returns-2
 unfolding stageProgram
-returns-2 c = simp (c .before .before .memory-program .ensures, c .before .before .before .before .before .stage .given .1)
+returns-2 c =
+    simp (
+      c .before .before .memory-program .ensures,
+      c .before .before .before .before .before .stage .given .1,
+    )
 
 pub stage-program-spec : {M : Type 1} → statement M
 stage-program-spec =

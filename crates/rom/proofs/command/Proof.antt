@@ -37,7 +37,14 @@ returns-4 c = simp (c .at-memory-command .ensures, c .before .match .keys4)
 
 returns-5 : tie.Need-returns-5
 unfolding romCommand
-returns-5 c = simp (c .waiting .ensures, ne-eqb _ _ (c .before .match .rest .1), ne-eqb _ _ (c .before .match .rest .0 .1), ne-eqb _ _ (c .before .match .rest .0 .0 .1), ne-eqb _ _ (c .before .match .rest .0 .0 .0 .1))
+returns-5 c =
+    simp (
+      c .waiting .ensures,
+      ne-eqb _ _ (c .before .match .rest .1),
+      ne-eqb _ _ (c .before .match .rest .0 .1),
+      ne-eqb _ _ (c .before .match .rest .0 .0 .1),
+      ne-eqb _ _ (c .before .match .rest .0 .0 .0 .1),
+    )
 
 pub command-spec : {M : Type 1} → statement M
 command-spec =

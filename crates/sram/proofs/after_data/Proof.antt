@@ -25,11 +25,21 @@ write-data-requires-3 c κs = search needs
 
 returns-2 : tie.Need-returns-2
 unfolding afterData
-returns-2 c = simp (c .write-data2 .ensures, lt-ltb _ _ (c .before .if2 .taken), lt-ltb _ _ (c .before .before .if1 .left))
+returns-2 c =
+    simp (
+      c .write-data2 .ensures,
+      lt-ltb _ _ (c .before .if2 .taken),
+      lt-ltb _ _ (c .before .before .if1 .left),
+    )
 
 returns-3 : tie.Need-returns-3
 unfolding afterData
-returns-3 c = simp (c .write-data3 .ensures, le-ltb _ _ (c .before .if2 .left), lt-ltb _ _ (c .before .before .if1 .left))
+returns-3 c =
+    simp (
+      c .write-data3 .ensures,
+      le-ltb _ _ (c .before .if2 .left),
+      lt-ltb _ _ (c .before .before .if1 .left),
+    )
 
 pub after-data-spec : {M : Type 1} → statement M
 after-data-spec =

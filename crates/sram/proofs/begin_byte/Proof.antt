@@ -21,7 +21,12 @@ same-length c = search needs
 
 returns : tie.Need-returns
 unfolding beginByte
-returns c = simp (c .before .before .put-byte .ensures, c .before .before .before .before .byte-at .ensures, eq-eqb _ _ (c .before .before .before .before .before .before .if1 .taken))
+returns c =
+    simp (
+      c .before .before .put-byte .ensures,
+      c .before .before .before .before .byte-at .ensures,
+      eq-eqb _ _ (c .before .before .before .before .before .before .if1 .taken),
+    )
 
 returns-2 : tie.Need-returns-2
 unfolding beginByte

@@ -8,7 +8,7 @@ use Rattle.sram.proofs.end_data.Tie as tie
 
 returns : tie.Need-returns
 unfolding endData
-returns c = simp (le-ltb 0 (c .before .before .args .bit) (omega arith))
+returns c = simp (le-ltb 0 (c .before .before .args .sent) (omega arith))
 
 bit-at-requires : tie.Need-bit-at-requires
 bit-at-requires c κs = search needs
@@ -18,7 +18,11 @@ same-length c = search needs
 
 returns-2 : tie.Need-returns-2
 unfolding endData
-returns-2 c = simp (lt-ltb 0 (c .before .before .before .before .before .args .bit) (omega arith), sym (c .before .bit-at .ensures) ∙ c .if2 .taken)
+returns-2 c =
+    simp (
+      lt-ltb 0 (c .before .before .before .before .before .args .sent) (omega arith),
+      sym (c .before .bit-at .ensures) ∙ c .if2 .taken,
+    )
 
 put-bit-requires : tie.Need-put-bit-requires
 put-bit-requires c κs = search needs
@@ -29,11 +33,11 @@ same-length-2 c = search needs
 returns-3 : tie.Need-returns-3
 unfolding endData
 returns-3 c =
-    let bit = c .before .before .before .before .before .before .before .before .before .args .bit in
+    let sent = c .before .before .before .before .before .before .before .before .before .args .sent in
     simp (
       c .before .before .put-bit .ensures,
       sym (c .before .before .before .before .before .bit-at .ensures) ∙ c .before .before .before .before .if2 .left,
-      lt-ltb 0 bit (omega arith),
+      lt-ltb 0 sent (omega arith),
     )
 
 pub end-data-spec : {M : Type 1} → statement M

@@ -100,7 +100,12 @@ returns-5 c = simp (c .after-scratchpad .ensures, c .before .before .s4 .given .
 
 returns-6 : tie.Need-returns-6
 unfolding sramNext
-returns-6 c = simp (c .after-pattern .ensures, c .before .pattern-same .ensures, c .before .before .before .s5 .given .1)
+returns-6 c =
+    simp (
+      c .after-pattern .ensures,
+      c .before .pattern-same .ensures,
+      c .before .before .before .s5 .given .1,
+    )
 
 returns-7 : tie.Need-returns-7
 unfolding sramNext

@@ -27,7 +27,13 @@ waiting-requires c κs = search needs
 
 returns : tie.Need-returns
 unfolding readMemory
-returns c = simp (c .sending .ensures, c .before .byte-at .ensures, c .before .before .in-sram .ensures, lt-ltb _ _ (c .before .before .before .if1 .taken))
+returns c =
+    simp (
+      c .sending .ensures,
+      c .before .byte-at .ensures,
+      c .before .before .in-sram .ensures,
+      lt-ltb _ _ (c .before .before .before .if1 .taken),
+    )
 
 returns-2 : tie.Need-returns-2
 unfolding readMemory

@@ -38,13 +38,14 @@ same-length-2 c = search needs
 returns-2 : tie.Need-returns-2
 unfolding writeBit storeBit
 returns-2 c =
+    let begun = c .before .before .before .before .before .before .before .before .before .before in
     simp (
       c .before .before .put-byte .ensures,
       c .before .before .before .with-bit .ensures,
       c .before .before .before .before .before .byte-at .ensures,
       c .before .before .before .before .before .before .before .wide .ensures,
-      c .before .before .before .before .before .before .before .before .before .before .begin-byte .ensures,
-      lt-ltb _ _ (c .before .before .before .before .before .before .before .before .before .before .before .before .if1 .left),
+      begun .begin-byte .ensures,
+      lt-ltb _ _ (begun .before .before .if1 .left),
     )
 
 pub write-bit-spec : {M : Type 1} → statement M

@@ -15,7 +15,12 @@ same-length c = search needs
 
 returns : tie.Need-returns
 unfolding stateAfterPulse bodyAfterPulse
-returns c = simp (c .before .before .pulse-as-is .ensures .0, c .before .before .pulse-as-is .ensures .1, c .before .before .before .before .taken .ensures) (refl, refl)
+returns c =
+    simp (
+      c .before .before .pulse-as-is .ensures .0,
+      c .before .before .pulse-as-is .ensures .1,
+      c .before .before .before .before .taken .ensures,
+    ) (refl, refl)
 
 pub pulse-spec : {M : Type 1} → statement M
 pulse-spec = tie.close (tie.spec taken-requires pulse-as-is-requires same-length returns)

@@ -15,7 +15,11 @@ same-length c = search needs
 
 returns : tie.Need-returns
 unfolding pulseAsIs programAsIs
-returns c = simp (c .before .before .stage-program .ensures, c .before .before .before .before .before .pulsed-as-is .ensures) (refl, refl)
+returns c =
+    simp (
+      c .before .before .stage-program .ensures,
+      c .before .before .before .before .before .pulsed-as-is .ensures,
+    ) (refl, refl)
 
 pub pulse-as-is-spec : {M : Type 1} → statement M
 pulse-as-is-spec =
