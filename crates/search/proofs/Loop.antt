@@ -18,7 +18,7 @@ use Rattle.bits.specs.Bit.{levelByte}
 use Rattle.bus.specs.Bus.{Device, deviceWith, eventOf, nextState, runTrace}
 use Rattle.bus.specs.Bus as Bus
 use Rattle.bus.specs.Run.{devicesFrom, statesOf}
-use Rattle.bus.specs.Loops.{placeIn, deviceAt, deviceIn, devicesIn, levelOn, statesAfter}
+use Rattle.bus.specs.Loops.{turnedFrom, levelAsItIs, levelOn, statesAfter}
 use Rattle.bus.proofs.Shown.{devices-states}
 use Rattle.bus.proofs.States.{states-length}
 use Rattle.master.specs.declared.Answer.{Answer}
@@ -33,7 +33,7 @@ use Rattle.discovery.specs.Searched.{Searched, eventsFor}
 use Rattle.discovery.proofs.Driven.{driven-stops, driven-devices}
 use Rattle.discovery.proofs.Demand.{searched}
 use Rattle.discovery.proofs.Going as G
-use Rattle.discovery.proofs.Going.{Going, going-start, going-end, going-room, going-on, linesAfter}
+use Rattle.discovery.proofs.Going.{Going, going-start, going-end, going-room, going-on, linesAfter, turned-in, level-in}
 use Rattle.search.specs.Exchange.{hasEvent, eventIn, Ready}
 
 -- ---- the state
@@ -84,27 +84,6 @@ module _ (image : List ℕ) where
       let before = exchanges k s in
       let m = before .step .next in
       length-sets (before .codes) (codeBytes * m .passes) (codeCompleted (m .passes) (nextOf m (levelByte (levelIn before)))) ∙ codes-length k s
-
-  -- ---- the devices of an accepted image
-
-  place-cut : (o size : ℕ) → o + size - o ≡ size
-  place-cut o size = omega arith
-
-  device-same : (known : Known image) (i : ℕ) (s : LineState) → i < countOf image → deviceIn image i s ≡ deviceWith (kindAt image i) (bodyAt image i) s
-  unfolding deviceIn deviceAt placeIn
-  device-same known i s h =
-      let o = offsetAt image i in
-      let size = bodySize (kindAt image i) in
-      rw (lt-ltb i (countOf image) h, le-leb (o + size) (length image) (inside image known i h))
-      (ap (λ (m : ℕ). deviceWith (kindAt image i) (take m (drop o image)) s) (place-cut o size))
-
-  devices-same : (known : Known image) (i : ℕ) (states : List LineState) → i + length states ≤ countOf image → devicesIn image i states ≡ devicesFrom image i states
-  unfolding devicesIn devicesFrom
-  devices-same known i [] h = refl
-  devices-same known i (s ∷ states) h =
-      let rest = devices-same known (suc i) states (omega arith) in
-      let one = device-same known i s (omega arith) in
-      λ j. one j ∷ rest j
 
 -- ---- bytes at the front of a buffer, and bytes after them
 over-more : (xs vs buffer : List ℕ) → length (xs ++ vs) ≤ length buffer → sets (over xs buffer) (length xs) vs ≡ over (xs ++ vs) buffer
@@ -204,17 +183,18 @@ module _ (image codes₀ trace₀ : List ℕ) (lines₀ : List LineState) (ready
     taken : take n (s .lines) ≡ d .at
     taken = ap (take n) (d .lined) ∙ take-at (d .at) (drop n lines₀) n (d .going .each)
 
-    devices : devicesIn image 0 (take n (s .lines)) ≡ devicesFrom image 0 (d .at)
-    devices = ap (devicesIn image 0) taken ∙ devices-same image (accepted-known image (ready .accepted)) 0 (d .at) (let e = d .going .each in omega arith)
-
     level-same : (e : ℕ) → levelOn image (s .lines) e ≡ G.levelIn image (d .at) e
     unfolding levelOn
-    level-same e = ap (Bus.levelOf (eventOf e)) devices
+    level-same e =
+        ap (levelAsItIs (eventOf e)) taken ∙ level-in image (accepted-known image (ready .accepted)) (d .at) e (d .going .ranged)
 
     lines-same : (e : ℕ) → statesAfter image (s .lines) e (G.levelIn image (d .at) e) ≡ linesAfter image (d .at) e ++ drop n lines₀
     unfolding statesAfter
     lines-same e =
-        ap (λ (ds : List Device). map (nextState (eventOf e) (G.levelIn image (d .at) e)) ds ++ drop n (s .lines)) devices
+        let level = G.levelIn image (d .at) e in
+        ap (λ (l : List LineState). turnedFrom image 0 l e level ++ drop n (s .lines)) taken
+        ∙ ap (λ (l : List LineState). l ++ drop n (s .lines))
+        (turned-in image (accepted-known image (ready .accepted)) 0 (d .at) e level (let c = d .going .each in omega arith) (d .going .ranged))
         ∙ ap (λ (l : List LineState). linesAfter image (d .at) e ++ l) (ap (drop n) (d .lined) ∙ drop-at (d .at) (drop n lines₀) n (d .going .each))
 
     doing-next : hasEvent (s .step .answer) ≡ true → Doing (suc k) (exchangeWith image k s (levelIn image s))

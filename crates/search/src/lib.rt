@@ -3,6 +3,7 @@
 // The image is only read. The loop over the exchanges sends what the master answers to the devices, and gives the level that they answer to
 // the master's next step; what is written and stored between is a function by value over the buffers.
 use device::LineState;
+use image::ACCEPTED;
 use master::Answer;
 use master::CODE_BYTES;
 use master::Master;
@@ -37,16 +38,7 @@ pub struct Found {
     pub slots: u64,
 }
 
-// The number of a search that is not refused.
-const ACCEPTED: u32 = 0;
-
 // ---- why a search is refused
-
-fn wide(byte: u8) -> usize
-    ensures { λ r. ⌜ r ≡ byte ⌝ }
-{
-    byte as usize
-}
 
 // The events of a search of n devices.
 fn trace_room(n: u8) -> usize
@@ -55,7 +47,7 @@ fn trace_room(n: u8) -> usize
     if n == 0 {
         return 1;
     }
-    PASS_EVENTS * wide(n)
+    PASS_EVENTS * bits::wide(n)
 }
 
 // Cause 7.
@@ -63,13 +55,13 @@ fn lacks_room(image: &[u8], codes: usize, trace: usize, lines: usize) -> bool
     ensures { λ r. ⌜ r ≡ noSearchRoom (now (image .entry)) codes trace lines ⌝ }
 {
     let n = image::count(image);
-    if codes < CODE_BYTES * wide(n) {
+    if codes < CODE_BYTES * bits::wide(n) {
         return true;
     }
     if trace < trace_room(n) {
         return true;
     }
-    lines < wide(n)
+    lines < bits::wide(n)
 }
 
 // Why a search is refused, 1 to 4 or 7; 0 where it is not. The image is bytes, as every slice of bytes is.
