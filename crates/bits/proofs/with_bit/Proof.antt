@@ -15,12 +15,6 @@ returns : tie.Need-returns
 unfolding withBit
 returns c = simp (le-leb _ _ (c .if1 .taken))
 
-bit-of-requires : tie.Need-bit-of-requires
-bit-of-requires c κs = search needs
-
-power-requires : tie.Need-power-requires
-power-requires c κs = search needs
-
 sub-result : tie.Need-sub-result
 unfolding bitOf
 sub-result c =
@@ -28,9 +22,6 @@ sub-result c =
     let set : a .byte / 2 ^ a .i % 2 ≡ 1 =
     eqb-true _ _ (sym (c .before .before .before .bit-of .ensures) ∙ c .before .before .if2 .taken) in
     omega (arith, set-below (a .byte) (a .i) (c .before .before .before .before .if1 .left) set)
-
-power-requires-2 : tie.Need-power-requires-2
-power-requires-2 c κs = search needs
 
 add-result : tie.Need-add-result
 unfolding bitOf
@@ -83,10 +74,10 @@ with-bit-spec =
     tie.close
     (tie.spec
     returns
-    bit-of-requires
-    power-requires
+    (λ c κs. search needs)
+    (λ c κs. search needs)
     sub-result
-    power-requires-2
+    (λ c κs. search needs)
     add-result
     returns-2
     returns-3

@@ -4,33 +4,6 @@ use Rattle.device.proofs.memory_in_range.Statement.{statement}
 use Rattle.device.proofs.memory_in_range.Tie as tie
 use Rattle.sram.proofs.in_range.Reads as in-range-reads′
 
-enum-told : tie.Need-enum-told
-enum-told c = search needs
-
-under-way-requires : tie.Need-under-way-requires
-under-way-requires c κs = search needs
-
-enum-known-m : tie.Need-enum-known-m
-enum-known-m c = search needs
-
-is-sram-requires : tie.Need-is-sram-requires
-is-sram-requires c κs = search needs
-
-memory-size-requires : tie.Need-memory-size-requires
-memory-size-requires c κs = search needs
-
-in-range-requires : tie.Need-in-range-requires
-in-range-requires c κs = search needs
-
-enum-known-m-2 : tie.Need-enum-known-m-2
-enum-known-m-2 c = search needs
-
-is-eprom-requires : tie.Need-is-eprom-requires
-is-eprom-requires c κs = search needs
-
-in-range-requires-2 : tie.Need-in-range-requires-2
-in-range-requires-2 c κs = search needs
-
 returns : tie.Need-returns
 unfolding memoryRange
 returns c = simp (c .under-way .ensures, c .before .enum-told .given .1)
@@ -53,15 +26,15 @@ pub memory-in-range-spec : {M : Type 1} → statement M
 memory-in-range-spec =
     tie.close
     (tie.spec
-    enum-told
-    under-way-requires
-    enum-known-m
-    is-sram-requires
-    memory-size-requires
-    in-range-requires
-    enum-known-m-2
-    is-eprom-requires
-    in-range-requires-2
+    (λ c. search needs)
+    (λ c κs. search needs)
+    (λ c. search needs)
+    (λ c κs. search needs)
+    (λ c κs. search needs)
+    (λ c κs. search needs)
+    (λ c. search needs)
+    (λ c κs. search needs)
+    (λ c κs. search needs)
     returns
     returns-2
     returns-3)

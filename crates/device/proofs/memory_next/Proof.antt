@@ -4,27 +4,6 @@ use Rattle.device.proofs.memory_next.Statement.{statement}
 use Rattle.device.proofs.memory_next.Tie as tie
 use Rattle.sram.proofs.next.Reads as next-reads′
 
-enum-told : tie.Need-enum-told
-enum-told c = search needs
-
-memory-command-requires : tie.Need-memory-command-requires
-memory-command-requires c κs = search needs
-
-enum-known-m : tie.Need-enum-known-m
-enum-known-m c = search needs
-
-memory-size-requires : tie.Need-memory-size-requires
-memory-size-requires c κs = search needs
-
-next-requires : tie.Need-next-requires
-next-requires c κs = search needs
-
-enum-known-m-2 : tie.Need-enum-known-m-2
-enum-known-m-2 c = search needs
-
-next-requires-2 : tie.Need-next-requires-2
-next-requires-2 c κs = search needs
-
 returns : tie.Need-returns
 unfolding memoryNext
 returns c = simp (c .memory-command .ensures, c .before .enum-told .given .1)
@@ -41,13 +20,13 @@ pub memory-next-spec : {M : Type 1} → statement M
 memory-next-spec =
     tie.close
     (tie.spec
-    enum-told
-    memory-command-requires
-    enum-known-m
-    memory-size-requires
-    next-requires
-    enum-known-m-2
-    next-requires-2
+    (λ c. search needs)
+    (λ c κs. search needs)
+    (λ c. search needs)
+    (λ c κs. search needs)
+    (λ c κs. search needs)
+    (λ c. search needs)
+    (λ c κs. search needs)
     returns
     returns-2
     returns-3)

@@ -3,21 +3,9 @@ use borrow.Author.Needs.{needs}
 use Rattle.device.proofs.stage_program.Statement.{statement}
 use Rattle.device.proofs.stage_program.Tie as tie
 
-enum-told : tie.Need-enum-told
-enum-told c = search needs
-
-enum-known-stage : tie.Need-enum-known-stage
-enum-known-stage c = search needs
-
-memory-program-requires : tie.Need-memory-program-requires
-memory-program-requires c κs = search needs
-
 returns : tie.Need-returns
 unfolding stageProgram
 returns c = simp (c .enum-told .given .1)
-
-same-length : tie.Need-same-length
-same-length c = search needs
 
 returns-2 : tie.Need-returns-2
 unfolding stageProgram
@@ -30,4 +18,4 @@ returns-2 c =
 pub stage-program-spec : {M : Type 1} → statement M
 stage-program-spec =
     tie.close
-    (tie.spec enum-told enum-known-stage memory-program-requires returns same-length returns-2)
+    (tie.spec (λ c. search needs) (λ c. search needs) (λ c κs. search needs) returns (λ c. search needs) returns-2)

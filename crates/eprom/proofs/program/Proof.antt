@@ -3,39 +3,6 @@ use borrow.Author.Needs.{needs}
 use Rattle.eprom.proofs.program.Statement.{statement}
 use Rattle.eprom.proofs.program.Tie as tie
 
-enum-told : tie.Need-enum-told
-enum-told c = search needs
-
-enum-told-2 : tie.Need-enum-told-2
-enum-told-2 c = search needs
-
-enum-told-3 : tie.Need-enum-told-3
-enum-told-3 c = search needs
-
-enum-told-4 : tie.Need-enum-told-4
-enum-told-4 c = search needs
-
-enum-told-5 : tie.Need-enum-told-5
-enum-told-5 c = search needs
-
-enum-told-6 : tie.Need-enum-told-6
-enum-told-6 c = search needs
-
-enum-told-7 : tie.Need-enum-told-7
-enum-told-7 c = search needs
-
-enum-told-8 : tie.Need-enum-told-8
-enum-told-8 c = search needs
-
-enum-known-e : tie.Need-enum-known-e
-enum-known-e c = search needs
-
-program-byte-requires : tie.Need-program-byte-requires
-program-byte-requires c κs = search needs
-
-enum-told-9 : tie.Need-enum-told-9
-enum-told-9 c = search needs
-
 returns : tie.Need-returns
 unfolding epromProgram
 returns c = simp (c .enum-told .given .1)
@@ -68,9 +35,6 @@ returns-8 : tie.Need-returns-8
 unfolding epromProgram
 returns-8 c = simp (c .enum-told8 .given .1)
 
-same-length : tie.Need-same-length
-same-length c = search needs
-
 returns-9 : tie.Need-returns-9
 unfolding epromProgram
 returns-9 c = simp (c .before .before .program-byte .ensures, c .before .before .before .before .before .e .given .1)
@@ -83,17 +47,17 @@ pub program-spec : {M : Type 1} → statement M
 program-spec =
     tie.close
     (tie.spec
-    enum-told
-    enum-told-2
-    enum-told-3
-    enum-told-4
-    enum-told-5
-    enum-told-6
-    enum-told-7
-    enum-told-8
-    enum-known-e
-    program-byte-requires
-    enum-told-9
+    (λ c. search needs)
+    (λ c. search needs)
+    (λ c. search needs)
+    (λ c. search needs)
+    (λ c. search needs)
+    (λ c. search needs)
+    (λ c. search needs)
+    (λ c. search needs)
+    (λ c. search needs)
+    (λ c κs. search needs)
+    (λ c. search needs)
     returns
     returns-2
     returns-3
@@ -102,6 +66,6 @@ program-spec =
     returns-6
     returns-7
     returns-8
-    same-length
+    (λ c. search needs)
     returns-9
     returns-10)

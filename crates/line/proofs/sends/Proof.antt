@@ -3,12 +3,9 @@ use borrow.Author.Needs.{needs}
 use Rattle.line.proofs.sends.Statement.{statement}
 use Rattle.line.proofs.sends.Tie as tie
 
-bit-of-requires : tie.Need-bit-of-requires
-bit-of-requires c κs = search needs
-
 returns : tie.Need-returns
 unfolding sends
 returns c = simp (c .bit-of .ensures)
 
 pub sends-spec : {M : Type 1} → statement M
-sends-spec = tie.close (tie.spec bit-of-requires returns)
+sends-spec = tie.close (tie.spec (λ c κs. search needs) returns)

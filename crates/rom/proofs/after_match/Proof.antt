@@ -4,18 +4,6 @@ use borrow.Author.Needs.{needs}
 use Rattle.rom.proofs.after_match.Statement.{statement}
 use Rattle.rom.proofs.after_match.Tie as tie
 
-add-match-bit : tie.Need-add-match-bit
-add-match-bit c = search needs
-
-match-bit-requires : tie.Need-match-bit-requires
-match-bit-requires c κs = search needs
-
-at-memory-command-requires : tie.Need-at-memory-command-requires
-at-memory-command-requires c κs = search needs
-
-waiting-requires : tie.Need-waiting-requires
-waiting-requires c κs = search needs
-
 returns : tie.Need-returns
 unfolding afterMatch
 returns c = simp (c .match-bit .ensures, lt-ltb _ _ (c .before .if2 .taken), c .before .before .if1 .taken)
@@ -32,10 +20,10 @@ pub after-match-spec : {M : Type 1} → statement M
 after-match-spec =
     tie.close
     (tie.spec
-    add-match-bit
-    match-bit-requires
-    at-memory-command-requires
-    waiting-requires
+    (λ c. search needs)
+    (λ c κs. search needs)
+    (λ c κs. search needs)
+    (λ c κs. search needs)
     returns
     returns-2
     returns-3)

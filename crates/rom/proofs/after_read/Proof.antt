@@ -4,15 +4,6 @@ use borrow.Author.Needs.{needs}
 use Rattle.rom.proofs.after_read.Statement.{statement}
 use Rattle.rom.proofs.after_read.Tie as tie
 
-add-read-byte : tie.Need-add-read-byte
-add-read-byte c = search needs
-
-read-byte-requires : tie.Need-read-byte-requires
-read-byte-requires c κs = search needs
-
-at-memory-command-requires : tie.Need-at-memory-command-requires
-at-memory-command-requires c κs = search needs
-
 returns : tie.Need-returns
 unfolding afterRead
 returns c = simp (c .read-byte .ensures, lt-ltb _ _ (c .before .if1 .taken))
@@ -24,4 +15,4 @@ returns-2 c = simp (c .at-memory-command .ensures, le-ltb _ _ (c .before .if1 .l
 pub after-read-spec : {M : Type 1} → statement M
 after-read-spec =
     tie.close
-    (tie.spec add-read-byte read-byte-requires at-memory-command-requires returns returns-2)
+    (tie.spec (λ c. search needs) (λ c κs. search needs) (λ c κs. search needs) returns returns-2)

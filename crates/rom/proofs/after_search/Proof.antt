@@ -4,18 +4,6 @@ use borrow.Author.Needs.{needs}
 use Rattle.rom.proofs.after_search.Statement.{statement}
 use Rattle.rom.proofs.after_search.Tie as tie
 
-add-search-bit : tie.Need-add-search-bit
-add-search-bit c = search needs
-
-search-bit-requires : tie.Need-search-bit-requires
-search-bit-requires c κs = search needs
-
-at-memory-command-requires : tie.Need-at-memory-command-requires
-at-memory-command-requires c κs = search needs
-
-waiting-requires : tie.Need-waiting-requires
-waiting-requires c κs = search needs
-
 returns : tie.Need-returns
 unfolding afterSearch
 returns c = simp (c .search-bit .ensures, lt-ltb _ _ (c .before .if2 .taken), c .before .before .if1 .taken)
@@ -32,10 +20,10 @@ pub after-search-spec : {M : Type 1} → statement M
 after-search-spec =
     tie.close
     (tie.spec
-    add-search-bit
-    search-bit-requires
-    at-memory-command-requires
-    waiting-requires
+    (λ c. search needs)
+    (λ c κs. search needs)
+    (λ c κs. search needs)
+    (λ c κs. search needs)
     returns
     returns-2
     returns-3)

@@ -4,21 +4,6 @@ use borrow.Author.Needs.{needs}
 use Rattle.rom.proofs.command.Statement.{statement}
 use Rattle.rom.proofs.command.Tie as tie
 
-read-byte-requires : tie.Need-read-byte-requires
-read-byte-requires c κs = search needs
-
-match-bit-requires : tie.Need-match-bit-requires
-match-bit-requires c κs = search needs
-
-search-bit-requires : tie.Need-search-bit-requires
-search-bit-requires c κs = search needs
-
-at-memory-command-requires : tie.Need-at-memory-command-requires
-at-memory-command-requires c κs = search needs
-
-waiting-requires : tie.Need-waiting-requires
-waiting-requires c κs = search needs
-
 returns : tie.Need-returns
 unfolding romCommand
 returns c = simp (c .read-byte .ensures, c .before .match .keys1)
@@ -50,11 +35,11 @@ pub command-spec : {M : Type 1} → statement M
 command-spec =
     tie.close
     (tie.spec
-    read-byte-requires
-    match-bit-requires
-    search-bit-requires
-    at-memory-command-requires
-    waiting-requires
+    (λ c κs. search needs)
+    (λ c κs. search needs)
+    (λ c κs. search needs)
+    (λ c κs. search needs)
+    (λ c κs. search needs)
     returns
     returns-2
     returns-3

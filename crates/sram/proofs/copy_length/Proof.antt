@@ -5,20 +5,11 @@ use borrow.Author.Needs.{needs}
 use Rattle.sram.proofs.copy_length.Statement.{statement}
 use Rattle.sram.proofs.copy_length.Tie as tie
 
-target-offset-requires : tie.Need-target-offset-requires
-target-offset-requires c κs = search needs
-
-ending-offset-requires : tie.Need-ending-offset-requires
-ending-offset-requires c κs = search needs
-
 returns : tie.Need-returns
 unfolding copyLength
 returns c =
     let body = c .before .before .before .before .args .body .now in
     simp (lt-ltb (endingOffset body) (targetOffset body) (omega arith))
-
-target-requires : tie.Need-target-requires
-target-requires c κs = search needs
 
 returns-2 : tie.Need-returns-2
 unfolding copyLength
@@ -26,12 +17,6 @@ returns-2 c =
     let body = c .before .before .before .before .before .before .args .body .now in
     let size = c .before .before .before .before .before .before .args .size in
     simp (le-ltb (endingOffset body) (targetOffset body) (omega arith), le-leb size (target body) (omega arith))
-
-add-result : tie.Need-add-result
-add-result c = search needs
-
-sub-result : tie.Need-sub-result
-sub-result c = search needs
 
 returns-3 : tie.Need-returns-3
 unfolding copyLength
@@ -49,11 +34,11 @@ pub copy-length-spec : {M : Type 1} → statement M
 copy-length-spec =
     tie.close
     (tie.spec
-    target-offset-requires
-    ending-offset-requires
+    (λ c κs. search needs)
+    (λ c κs. search needs)
     returns
-    target-requires
+    (λ c κs. search needs)
     returns-2
-    add-result
-    sub-result
+    (λ c. search needs)
+    (λ c. search needs)
     returns-3)

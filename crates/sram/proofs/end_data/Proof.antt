@@ -10,12 +10,6 @@ returns : tie.Need-returns
 unfolding endData
 returns c = simp (le-ltb 0 (c .before .before .args .sent) (omega arith))
 
-bit-at-requires : tie.Need-bit-at-requires
-bit-at-requires c κs = search needs
-
-same-length : tie.Need-same-length
-same-length c = search needs
-
 returns-2 : tie.Need-returns-2
 unfolding endData
 returns-2 c =
@@ -23,12 +17,6 @@ returns-2 c =
       lt-ltb 0 (c .before .before .before .before .before .args .sent) (omega arith),
       sym (c .before .bit-at .ensures) ∙ c .if2 .taken,
     )
-
-put-bit-requires : tie.Need-put-bit-requires
-put-bit-requires c κs = search needs
-
-same-length-2 : tie.Need-same-length-2
-same-length-2 c = search needs
 
 returns-3 : tie.Need-returns-3
 unfolding endData
@@ -45,9 +33,9 @@ end-data-spec =
     tie.close
     (tie.spec
     returns
-    bit-at-requires
-    same-length
+    (λ c κs. search needs)
+    (λ c. search needs)
     returns-2
-    put-bit-requires
-    same-length-2
+    (λ c κs. search needs)
+    (λ c. search needs)
     returns-3)

@@ -3,72 +3,6 @@ use borrow.Author.Needs.{needs}
 use Rattle.sram.proofs.in_range.Statement.{statement}
 use Rattle.sram.proofs.in_range.Tie as tie
 
-enum-told : tie.Need-enum-told
-enum-told c = search needs
-
-under-way-requires : tie.Need-under-way-requires
-under-way-requires c κs = search needs
-
-enum-told-2 : tie.Need-enum-told-2
-enum-told-2 c = search needs
-
-under-way-requires-2 : tie.Need-under-way-requires-2
-under-way-requires-2 c κs = search needs
-
-enum-known-s : tie.Need-enum-known-s
-enum-known-s c = search needs
-
-data-in-range-requires : tie.Need-data-in-range-requires
-data-in-range-requires c κs = search needs
-
-under-way-requires-3 : tie.Need-under-way-requires-3
-under-way-requires-3 c κs = search needs
-
-enum-known-s-2 : tie.Need-enum-known-s-2
-enum-known-s-2 c = search needs
-
-under-way-requires-4 : tie.Need-under-way-requires-4
-under-way-requires-4 c κs = search needs
-
-enum-known-s-3 : tie.Need-enum-known-s-3
-enum-known-s-3 c = search needs
-
-under-way-requires-5 : tie.Need-under-way-requires-5
-under-way-requires-5 c κs = search needs
-
-enum-known-s-4 : tie.Need-enum-known-s-4
-enum-known-s-4 c = search needs
-
-under-way-requires-6 : tie.Need-under-way-requires-6
-under-way-requires-6 c κs = search needs
-
-enum-told-3 : tie.Need-enum-told-3
-enum-told-3 c = search needs
-
-under-way-requires-7 : tie.Need-under-way-requires-7
-under-way-requires-7 c κs = search needs
-
-enum-told-4 : tie.Need-enum-told-4
-enum-told-4 c = search needs
-
-under-way-requires-8 : tie.Need-under-way-requires-8
-under-way-requires-8 c κs = search needs
-
-enum-told-5 : tie.Need-enum-told-5
-enum-told-5 c = search needs
-
-under-way-requires-9 : tie.Need-under-way-requires-9
-under-way-requires-9 c κs = search needs
-
-enum-known-s-5 : tie.Need-enum-known-s-5
-enum-known-s-5 c = search needs
-
-address-of-requires : tie.Need-address-of-requires
-address-of-requires c κs = search needs
-
-under-way-requires-10 : tie.Need-under-way-requires-10
-under-way-requires-10 c κs = search needs
-
 returns : tie.Need-returns
 unfolding sramRange
 returns c = simp (c .under-way .ensures, c .before .enum-told .given .1)
@@ -113,28 +47,28 @@ pub in-range-spec : {M : Type 1} → statement M
 in-range-spec =
     tie.close
     (tie.spec
-    enum-told
-    under-way-requires
-    enum-told-2
-    under-way-requires-2
-    enum-known-s
-    data-in-range-requires
-    under-way-requires-3
-    enum-known-s-2
-    under-way-requires-4
-    enum-known-s-3
-    under-way-requires-5
-    enum-known-s-4
-    under-way-requires-6
-    enum-told-3
-    under-way-requires-7
-    enum-told-4
-    under-way-requires-8
-    enum-told-5
-    under-way-requires-9
-    enum-known-s-5
-    address-of-requires
-    under-way-requires-10
+    (λ c. search needs)
+    (λ c κs. search needs)
+    (λ c. search needs)
+    (λ c κs. search needs)
+    (λ c. search needs)
+    (λ c κs. search needs)
+    (λ c κs. search needs)
+    (λ c. search needs)
+    (λ c κs. search needs)
+    (λ c. search needs)
+    (λ c κs. search needs)
+    (λ c. search needs)
+    (λ c κs. search needs)
+    (λ c. search needs)
+    (λ c κs. search needs)
+    (λ c. search needs)
+    (λ c κs. search needs)
+    (λ c. search needs)
+    (λ c κs. search needs)
+    (λ c. search needs)
+    (λ c κs. search needs)
+    (λ c κs. search needs)
     returns
     returns-2
     returns-3

@@ -4,27 +4,6 @@ use borrow.Author.Needs.{needs}
 use Rattle.sram.proofs.read_memory.Statement.{statement}
 use Rattle.sram.proofs.read_memory.Tie as tie
 
-cast-low : tie.Need-cast-low
-cast-low c = search needs
-
-cast-high : tie.Need-cast-high
-cast-high c = search needs
-
-in-sram-requires : tie.Need-in-sram-requires
-in-sram-requires c κs = search needs
-
-add-byte-at : tie.Need-add-byte-at
-add-byte-at c = search needs
-
-byte-at-requires : tie.Need-byte-at-requires
-byte-at-requires c κs = search needs
-
-sending-requires : tie.Need-sending-requires
-sending-requires c κs = search needs
-
-waiting-requires : tie.Need-waiting-requires
-waiting-requires c κs = search needs
-
 returns : tie.Need-returns
 unfolding readMemory
 returns c =
@@ -43,12 +22,12 @@ pub read-memory-spec : {M : Type 1} → statement M
 read-memory-spec =
     tie.close
     (tie.spec
-    cast-low
-    cast-high
-    in-sram-requires
-    add-byte-at
-    byte-at-requires
-    sending-requires
-    waiting-requires
+    (λ c. search needs)
+    (λ c. search needs)
+    (λ c κs. search needs)
+    (λ c. search needs)
+    (λ c κs. search needs)
+    (λ c κs. search needs)
+    (λ c κs. search needs)
     returns
     returns-2)

@@ -3,12 +3,9 @@ use borrow.Author.Needs.{needs}
 use Rattle.device.proofs.LineState.sends_as_is.Statement.{statement}
 use Rattle.device.proofs.LineState.sends_as_is.Tie as tie
 
-sends-requires : tie.Need-sends-requires
-sends-requires c κs = search needs
-
 returns : tie.Need-returns
 unfolding sendsAsIs
 returns c = simp (c .sends .ensures)
 
 pub sends-as-is-spec : {M : Type 1} → statement M
-sends-as-is-spec = tie.close (tie.spec sends-requires returns)
+sends-as-is-spec = tie.close (tie.spec (λ c κs. search needs) returns)

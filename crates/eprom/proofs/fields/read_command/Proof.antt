@@ -3,15 +3,6 @@ use borrow.Author.Needs.{needs}
 use Rattle.eprom.proofs.fields.read_command.Statement.{statement}
 use Rattle.eprom.proofs.fields.read_command.Tie as tie
 
-enum-told : tie.Need-enum-told
-enum-told c = search needs
-
-enum-told-2 : tie.Need-enum-told-2
-enum-told-2 c = search needs
-
-enum-told-3 : tie.Need-enum-told-3
-enum-told-3 c = search needs
-
 returns : tie.Need-returns
 unfolding readCommand
 returns c = simp (c .enum-told .given .1)
@@ -25,4 +16,4 @@ unfolding readCommand
 returns-3 c = simp (c .enum-told3 .given .1)
 
 pub read-command-spec : {M : Type 1} → statement M
-read-command-spec = tie.close (tie.spec enum-told enum-told-2 enum-told-3 returns returns-2 returns-3)
+read-command-spec = tie.close (tie.spec (λ c. search needs) (λ c. search needs) (λ c. search needs) returns returns-2 returns-3)

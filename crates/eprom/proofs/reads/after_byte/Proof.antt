@@ -5,15 +5,6 @@ use borrow.Author.Needs.{needs}
 use Rattle.eprom.proofs.reads.after_byte.Statement.{statement}
 use Rattle.eprom.proofs.reads.after_byte.Tie as tie
 
-field-read-requires : tie.Need-field-read-requires
-field-read-requires c κs = search needs
-
-field-length-requires : tie.Need-field-length-requires
-field-length-requires c κs = search needs
-
-waiting-requires : tie.Need-waiting-requires
-waiting-requires c κs = search needs
-
 returns : tie.Need-returns
 unfolding afterByte
 returns c =
@@ -23,18 +14,6 @@ returns c =
       sym (c .before .before .field-length .ensures),
       le-ltb _ _ (c .before .if1 .taken),
     )
-
-add-next : tie.Need-add-next
-add-next c = search needs
-
-ends-span-requires : tie.Need-ends-span-requires
-ends-span-requires c κs = search needs
-
-send-crc-requires : tie.Need-send-crc-requires
-send-crc-requires c κs = search needs
-
-send-byte-requires : tie.Need-send-byte-requires
-send-byte-requires c κs = search needs
 
 returns-2 : tie.Need-returns-2
 unfolding afterByte
@@ -62,13 +41,13 @@ pub after-byte-spec : {M : Type 1} → statement M
 after-byte-spec =
     tie.close
     (tie.spec
-    field-read-requires
-    field-length-requires
-    waiting-requires
+    (λ c κs. search needs)
+    (λ c κs. search needs)
+    (λ c κs. search needs)
     returns
-    add-next
-    ends-span-requires
-    send-crc-requires
-    send-byte-requires
+    (λ c. search needs)
+    (λ c κs. search needs)
+    (λ c κs. search needs)
+    (λ c κs. search needs)
     returns-2
     returns-3)

@@ -5,18 +5,6 @@ use borrow.Author.Needs.{needs}
 use Rattle.eprom.proofs.reads.after_crc.Statement.{statement}
 use Rattle.eprom.proofs.reads.after_crc.Tie as tie
 
-field-read-requires : tie.Need-field-read-requires
-field-read-requires c κs = search needs
-
-field-length-requires : tie.Need-field-length-requires
-field-length-requires c κs = search needs
-
-send-byte-requires : tie.Need-send-byte-requires
-send-byte-requires c κs = search needs
-
-waiting-requires : tie.Need-waiting-requires
-waiting-requires c κs = search needs
-
 returns : tie.Need-returns
 unfolding afterCrc
 returns c =
@@ -41,9 +29,9 @@ pub after-crc-spec : {M : Type 1} → statement M
 after-crc-spec =
     tie.close
     (tie.spec
-    field-read-requires
-    field-length-requires
-    send-byte-requires
-    waiting-requires
+    (λ c κs. search needs)
+    (λ c κs. search needs)
+    (λ c κs. search needs)
+    (λ c κs. search needs)
     returns
     returns-2)

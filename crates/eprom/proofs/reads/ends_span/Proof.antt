@@ -3,15 +3,6 @@ use borrow.Author.Needs.{needs}
 use Rattle.eprom.proofs.reads.ends_span.Statement.{statement}
 use Rattle.eprom.proofs.reads.ends_span.Tie as tie
 
-enum-told : tie.Need-enum-told
-enum-told c = search needs
-
-enum-told-2 : tie.Need-enum-told-2
-enum-told-2 c = search needs
-
-enum-told-3 : tie.Need-enum-told-3
-enum-told-3 c = search needs
-
 returns : tie.Need-returns
 unfolding endsSpan
 returns c = simp (c .enum-told .given .1)
@@ -25,4 +16,4 @@ unfolding endsSpan
 returns-3 c = simp (c .enum-told3 .given .1)
 
 pub ends-span-spec : {M : Type 1} → statement M
-ends-span-spec = tie.close (tie.spec enum-told enum-told-2 enum-told-3 returns returns-2 returns-3)
+ends-span-spec = tie.close (tie.spec (λ c. search needs) (λ c. search needs) (λ c. search needs) returns returns-2 returns-3)

@@ -3,21 +3,6 @@ use borrow.Author.Needs.{needs}
 use Rattle.eprom.proofs.reads.send_byte.Statement.{statement}
 use Rattle.eprom.proofs.reads.send_byte.Tie as tie
 
-field-read-requires : tie.Need-field-read-requires
-field-read-requires c κs = search needs
-
-stored-requires : tie.Need-stored-requires
-stored-requires c κs = search needs
-
-crc-byte-requires : tie.Need-crc-byte-requires
-crc-byte-requires c κs = search needs
-
-in-eprom-requires : tie.Need-in-eprom-requires
-in-eprom-requires c κs = search needs
-
-sending-requires : tie.Need-sending-requires
-sending-requires c κs = search needs
-
 returns : tie.Need-returns
 unfolding sendByte
 returns c =
@@ -33,9 +18,9 @@ pub send-byte-spec : {M : Type 1} → statement M
 send-byte-spec =
     tie.close
     (tie.spec
-    field-read-requires
-    stored-requires
-    crc-byte-requires
-    in-eprom-requires
-    sending-requires
+    (λ c κs. search needs)
+    (λ c κs. search needs)
+    (λ c κs. search needs)
+    (λ c κs. search needs)
+    (λ c κs. search needs)
     returns)

@@ -4,15 +4,9 @@ use borrow.Author.Needs.{needs}
 use Rattle.eprom.proofs.view.fields_fit.Statement.{statement}
 use Rattle.eprom.proofs.view.fields_fit.Tie as tie
 
-cast-result : tie.Need-cast-result
-cast-result c = search needs
-
-cast-result-2 : tie.Need-cast-result-2
-cast-result-2 c = search needs
-
 returns : tie.Need-returns
 unfolding fieldsFit
 returns c = refl
 
 pub fields-fit-spec : {M : Type 1} → statement M
-fields-fit-spec = tie.close (tie.spec cast-result cast-result-2 returns)
+fields-fit-spec = tie.close (tie.spec (λ c. search needs) (λ c. search needs) returns)

@@ -9,33 +9,9 @@ use borrow.Author.Needs.{needs}
 use Rattle.eprom.proofs.view.remaining.Statement.{statement}
 use Rattle.eprom.proofs.view.remaining.Tie as tie
 
-fields-fit-requires : tie.Need-fields-fit-requires
-fields-fit-requires c κs = search needs
-
-sub-result : tie.Need-sub-result
-sub-result c = search needs
-
-part-result-start : tie.Need-part-result-start
-part-result-start c = search needs
-
-part-result-end : tie.Need-part-result-end
-part-result-end c = search needs
-
 returns : tie.Need-returns
 unfolding bytesToRead placeToRead
 returns c = simp (sym (c .before .before .fields-fit .ensures) ∙ not-true _ (c .before .if1 .taken)) (refl, refl)
-
-cut-requires : tie.Need-cut-requires
-cut-requires c κs = search needs
-
-cast-data-start : tie.Need-cast-data-start
-cast-data-start c = search needs
-
-cut-requires-2 : tie.Need-cut-requires-2
-cut-requires-2 c κs = search needs
-
-cast-status-start : tie.Need-cast-status-start
-cast-status-start c = search needs
 
 sub-result-2 : tie.Need-sub-result-2
 sub-result-2 c =
@@ -49,9 +25,6 @@ part-result-start-2 c =
     let fit = sym (s .fields-fit .ensures) ∙ not-false _ (c .before .before .before .if1 .left) in
     omega (arith, cut-within _ _ fit (s .before .before .before .args .address))
 
-part-result-end-2 : tie.Need-part-result-end-2
-part-result-end-2 c = search needs
-
 sub-result-3 : tie.Need-sub-result-3
 sub-result-3 c =
     let s = c .before .before .before .before in
@@ -63,18 +36,6 @@ part-result-start-3 c =
     let s = c .before .before .before .before in
     let fit = sym (s .fields-fit .ensures) ∙ not-false _ (c .before .before .before .if1 .left) in
     omega (arith, cut-within _ _ fit (s .before .before .before .args .address))
-
-part-result-end-3 : tie.Need-part-result-end-3
-part-result-end-3 c = search needs
-
-sub-result-4 : tie.Need-sub-result-4
-sub-result-4 c = search needs
-
-part-result-start-4 : tie.Need-part-result-start-4
-part-result-start-4 c = search needs
-
-part-result-end-4 : tie.Need-part-result-end-4
-part-result-end-4 c = search needs
 
 returns-2 : tie.Need-returns-2
 unfolding bytesToRead placeToRead
@@ -107,24 +68,24 @@ pub remaining-spec : {M : Type 1} → statement M
 remaining-spec =
     tie.close
     (tie.spec
-    fields-fit-requires
-    sub-result
-    part-result-start
-    part-result-end
+    (λ c κs. search needs)
+    (λ c. search needs)
+    (λ c. search needs)
+    (λ c. search needs)
     returns
-    cut-requires
-    cast-data-start
-    cut-requires-2
-    cast-status-start
+    (λ c κs. search needs)
+    (λ c. search needs)
+    (λ c κs. search needs)
+    (λ c. search needs)
     sub-result-2
     part-result-start-2
-    part-result-end-2
+    (λ c. search needs)
     sub-result-3
     part-result-start-3
-    part-result-end-3
-    sub-result-4
-    part-result-start-4
-    part-result-end-4
+    (λ c. search needs)
+    (λ c. search needs)
+    (λ c. search needs)
+    (λ c. search needs)
     returns-2
     returns-3
     returns-4)

@@ -8,20 +8,8 @@ use borrow.Author.Needs.{needs}
 use Rattle.eprom.proofs.writes.next_pass.Statement.{statement}
 use Rattle.eprom.proofs.writes.next_pass.Tie as tie
 
-field-length-requires : tie.Need-field-length-requires
-field-length-requires c κs = search needs
-
 sub-last : tie.Need-sub-last
 sub-last c = omega (arith, length-least (c .before .args .field))
-
-add-next : tie.Need-add-next
-add-next c = search needs
-
-write-data-requires : tie.Need-write-data-requires
-write-data-requires c κs = search needs
-
-waiting-requires : tie.Need-waiting-requires
-waiting-requires c κs = search needs
 
 returns : tie.Need-returns
 unfolding nextPass
@@ -43,10 +31,10 @@ pub next-pass-spec : {M : Type 1} → statement M
 next-pass-spec =
     tie.close
     (tie.spec
-    field-length-requires
+    (λ c κs. search needs)
     sub-last
-    add-next
-    write-data-requires
-    waiting-requires
+    (λ c. search needs)
+    (λ c κs. search needs)
+    (λ c κs. search needs)
     returns
     returns-2)

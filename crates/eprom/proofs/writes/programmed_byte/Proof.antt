@@ -4,12 +4,6 @@ use borrow.Author.Needs.{needs}
 use Rattle.eprom.proofs.writes.programmed_byte.Statement.{statement}
 use Rattle.eprom.proofs.writes.programmed_byte.Tie as tie
 
-stored-requires : tie.Need-stored-requires
-stored-requires c κs = search needs
-
-protected-requires : tie.Need-protected-requires
-protected-requires c κs = search needs
-
 returns : tie.Need-returns
 unfolding programmedByte
 returns c = simp (c .before .before .stored .ensures, sym (c .before .protected .ensures) ∙ c .if1 .taken)
@@ -19,4 +13,4 @@ unfolding programmedByte
 returns-2 c = simp (c .before .before .stored .ensures, sym (c .before .protected .ensures) ∙ c .if1 .left)
 
 pub programmed-byte-spec : {M : Type 1} → statement M
-programmed-byte-spec = tie.close (tie.spec stored-requires protected-requires returns returns-2)
+programmed-byte-spec = tie.close (tie.spec (λ c κs. search needs) (λ c κs. search needs) returns returns-2)

@@ -4,15 +4,6 @@ use borrow.Author.Needs.{needs}
 use Rattle.eprom.proofs.writes.send_programmed.Statement.{statement}
 use Rattle.eprom.proofs.writes.send_programmed.Tie as tie
 
-in-eprom-requires : tie.Need-in-eprom-requires
-in-eprom-requires c κs = search needs
-
-programmed-byte-requires : tie.Need-programmed-byte-requires
-programmed-byte-requires c κs = search needs
-
-sending-requires : tie.Need-sending-requires
-sending-requires c κs = search needs
-
 returns : tie.Need-returns
 unfolding sendStored
 returns c =
@@ -22,4 +13,4 @@ returns c =
 
 pub send-programmed-spec : {M : Type 1} → statement M
 send-programmed-spec =
-    tie.close (tie.spec in-eprom-requires programmed-byte-requires sending-requires returns)
+    tie.close (tie.spec (λ c κs. search needs) (λ c κs. search needs) (λ c κs. search needs) returns)

@@ -5,22 +5,10 @@ use borrow.Author.Needs.{needs}
 use Rattle.eprom.proofs.writes.write_latch.Statement.{statement}
 use Rattle.eprom.proofs.writes.write_latch.Tie as tie
 
-cut-requires : tie.Need-cut-requires
-cut-requires c κs = search needs
-
-write-command-requires : tie.Need-write-command-requires
-write-command-requires c κs = search needs
-
-command-crc-requires : tie.Need-command-crc-requires
-command-crc-requires c κs = search needs
-
 cast-write-data : tie.Need-cast-write-data
 cast-write-data c =
     let a = c .before .before .before .args in
     omega (arith, cut-fits (a .field) (a .address))
-
-write-data-requires : tie.Need-write-data-requires
-write-data-requires c κs = search needs
 
 returns : tie.Need-returns
 unfolding writeLatch
@@ -36,9 +24,9 @@ pub write-latch-spec : {M : Type 1} → statement M
 write-latch-spec =
     tie.close
     (tie.spec
-    cut-requires
-    write-command-requires
-    command-crc-requires
+    (λ c κs. search needs)
+    (λ c κs. search needs)
+    (λ c κs. search needs)
     cast-write-data
-    write-data-requires
+    (λ c κs. search needs)
     returns)
