@@ -45,11 +45,11 @@ clear-room b h =
     (λ e. omega arith) (λ e. omega arith) (λ e. omega arith) (λ e. omega arith)
     (λ e. omega arith) (λ e. omega arith) (λ e. omega arith) (λ e. omega arith)
 
--- a number of so many bits has none past them
-pub no-bit : (width b i : ℕ) → b < 2 ^ width → width ≤ i → bitOf b i ≡ false
+-- a byte has no bit past 7
+pub no-bit : (b i : ℕ) → b < 256 → 8 ≤ i → bitOf b i ≡ false
 unfolding bitOf
-no-bit width b i h k =
-    let big : 2 ^ width ≤ 2 ^ i = pow-mono k in
+no-bit b i h k =
+    let big : 2 ^ 8 ≤ 2 ^ i = pow-mono k in
     let none : b / 2 ^ i ≡ 0 = div-eq-of-lt (omega arith) in
     rw none
 

@@ -2,16 +2,10 @@
 //
 // Every function takes any input: a read past the end gives 0, a write past the end changes nothing.
 ghost use mathlib.Core.Path.{_≡_};
-ghost use Prim.Native.Nat.{_<_, _+_, _-_, _^_};
-ghost use lib.Dec.{ltb};
+ghost use Prim.Native.Nat.{_<_, _^_};
 ghost use lib.ListN.{getD, set};
 ghost use Rattle.bits.specs.Bit.{bitOf, bitAt, withBit, putBit, shiftIn};
-ghost use Rattle.bits.specs.Several.{shiftsIn, sameBits, crcShifts};
-ghost use Rattle.bits.specs.Slots.{slotsWord, levelsIn, countIn, smaller, bothSlots, fourAt, wordAt};
 ghost use Rattle.bits.specs.Crc.{crcBit, crcByte, crcFrom, registered};
-
-// The place value above the 32 levels of a word of slots.
-const WORD: u64 = 4294967296;
 
 // Byte i of a slice.
 pub fn byte_at(s: &[u8], i: usize) -> u8
@@ -87,124 +81,6 @@ pub fn shift_in_wide(value: u16, level: bool) -> u16
     if level { value / 2 + 32768 } else { value / 2 }
 }
 
-// Slots that follow each other, as a word: bit j of the low 32 is the level of slot j, and the byte above them says how many slots there are,
-// 32 at most.
-pub fn slots_word(levels: u32, count: u8) -> u64
-    ensures { λ r. ⌜ r ≡ slotsWord levels count ⌝ }
-{
-    WORD * (count as u64) + levels as u64
-}
-
-pub fn levels_in(slots: u64) -> u32
-    ensures { λ r. ⌜ r ≡ levelsIn slots ⌝ }
-{
-    (slots % WORD) as u32
-}
-
-pub fn count_in(slots: u64) -> u8
-    ensures { λ r. ⌜ r ≡ countIn slots ⌝ }
-{
-    (slots / WORD % 256) as u8
-}
-
-// The level of slot j.
-pub fn level_in(levels: u32, j: u8) -> bool
-    ensures { λ r. ⌜ r ≡ bitOf levels j ⌝ }
-{
-    if j < 32 {
-        (levels >> j) % 2 == 1
-    } else {
-        false
-    }
-}
-
-fn smaller(a: u8, b: u8) -> u8
-    ensures { λ r. ⌜ r ≡ smaller a b ⌝ }
-{
-    if a < b { a } else { b }
-}
-
-// Slots of two parties on one line: low where one of them is, and as many as both have.
-pub fn both_slots(a: u64, b: u64) -> u64
-    ensures { λ r. ⌜ r ≡ bothSlots a b ⌝ }
-{
-    let levels = levels_in(a) & levels_in(b);
-    let count = smaller(count_in(a), count_in(b));
-    slots_word(levels, count)
-}
-
-// How many of a whole are left, of which so many are through.
-pub fn left(through: u8, whole: u8) -> u8
-    ensures { λ r. ⌜ r ≡ whole - through ⌝ }
-{
-    if through < whole { whole - through } else { 0 }
-}
-
-// Whether n more stay within a whole, of which so many are through.
-pub fn within(through: u8, n: u8, whole: u8) -> bool
-    ensures { λ r. ⌜ r ≡ ltb (through + n) whole ⌝ }
-{
-    (through as u16 + n as u16) < whole as u16
-}
-
-// Four bytes of a slice from byte i on, the first lowest.
-fn four_at(s: &[u8], i: usize) -> u32
-    requires { ⌜ i < 2 ^ 63 ⌝ }
-    ensures { λ r. ⌜ r ≡ fourAt (now (s .entry)) i ⌝ }
-{
-    let low = byte_at(s, i) as u32 + 256 * byte_at(s, i + 1) as u32;
-    let high = byte_at(s, i + 2) as u32 + 256 * byte_at(s, i + 3) as u32;
-    low + 65536 * high
-}
-
-// The bits of a slice from bit i on, the first lowest, to the end of the fourth byte.
-pub fn word_at(s: &[u8], i: usize) -> u32
-    ensures { λ r. ⌜ r ≡ wordAt (now (s .entry)) i ⌝ }
-{
-    four_at(s, i / 8) >> (i % 8)
-}
-
-// The shift register after n levels more, the lowest bit first.
-pub fn shifts_in(value: u8, levels: u32, n: u8) -> u8
-    ensures { λ r. ⌜ r ≡ shiftsIn 8 value levels n ⌝ }
-{
-    let mut register = value;
-    let mut j: u8 = 0;
-    while j < n {
-        register = shift_in(register, level_in(levels, j));
-        j += 1;
-    }
-    register
-}
-
-// The same of sixteen bits.
-pub fn shifts_in_wide(value: u16, levels: u32, n: u8) -> u16
-    ensures { λ r. ⌜ r ≡ shiftsIn 16 value levels n ⌝ }
-{
-    let mut register = value;
-    let mut j: u8 = 0;
-    while j < n {
-        register = shift_in_wide(register, level_in(levels, j));
-        j += 1;
-    }
-    register
-}
-
-// Whether n levels are the bits of a slice from bit i on. Most devices differ early.
-pub fn same_bits(s: &[u8], i: u16, levels: u32, n: u8) -> bool
-    ensures { λ r. ⌜ r ≡ sameBits (now (s .entry)) i levels n ⌝ }
-{
-    let mut j: u8 = 0;
-    while j < n {
-        let same = bit_at(s, i as usize + j as usize) == level_in(levels, j);
-        if !same {
-            return false;
-        }
-        j += 1;
-    }
-    true
-}
-
 // The CRC register after one bit more.
 pub fn crc_bit(register: u8, level: bool) -> u8
     ensures { λ r. ⌜ r ≡ crcBit register level ⌝ }
@@ -214,19 +90,6 @@ pub fn crc_bit(register: u8, level: bool) -> u8
     } else {
         (register / 2) ^ 0x8C
     }
-}
-
-// The CRC register after n bits more, the lowest first.
-pub fn crc_shifts(register: u8, levels: u32, n: u8) -> u8
-    ensures { λ r. ⌜ r ≡ crcShifts register levels n ⌝ }
-{
-    let mut reg = register;
-    let mut j: u8 = 0;
-    while j < n {
-        reg = crc_bit(reg, level_in(levels, j));
-        j += 1;
-    }
-    reg
 }
 
 // The CRC register after one byte more.

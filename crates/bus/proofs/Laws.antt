@@ -1,36 +1,25 @@
 -- Laws that the proofs of this crate cite. Assumes nothing.
-use Prim.Native.Nat.{ℕ, zero, suc, _+_, _-_, _*_, _^_, _<_, _≤_}
+use Prim.Native.Nat.{ℕ, zero, suc, _+_, _-_, _<_, _≤_}
 use mathlib.Core.Path.{_≡_, refl, sym, ap, subst, _∙_}
 use mathlib.Core.Bool.{Bool, true, false, cond, _&&_, _||_, or-assoc, or-false, true≢false}
 use mathlib.Core.List.{List, [], _∷_, _++_}
 use native.Mathlib.Omega.{arith}
-use native.Mathlib.Nat.{two-pow-succ}
-use package.mir.Val.{boolByte}
-use Rattle.bits.specs.Bit.{bitOf, levelByte}
-use Rattle.bits.specs.Slots.{levelsIn, countIn, smaller, bothSlots}
-use Rattle.device.specs.Through.{knownAt}
+use native.Mathlib.Nat.{not-suc-le-zero, le-of-suc-le-suc}
 use native.Mathlib.Numerals.{add-one}
 use lib.ListN.{length, getD, drop, drop-of-length-le, length-set, length-append, length-drop}
 use lib.Seq.{drop-cons, length-take-le}
-use lib.Bits.{bitAnd, and-le-l}
-use lib.Pow.{pow-mono}
-use lib.Dec.{eqb, ltb, leb, lit<}
-use borrow.Author.Tests.{leb-true, ltb-true, ltb-false, le-ltb}
+use lib.Dec.{ltb, leb, lit<}
+use borrow.Author.Tests.{leb-true, ltb-false, le-ltb}
 use Rattle.kind.specs.declared.Kind.the-variants.{Unknown}
 use Rattle.kind.specs.Kind.{bodySize}
 use Rattle.image.specs.Image.{countOf, kindAt, offsetAt}
 use Rattle.image.specs.Refusal.{Cause, cause, firstOf, imageCauses, imageRefusal}
-use Rattle.line.specs.declared.SearchSlot.{SearchSlot}
-use Rattle.line.specs.declared.SearchSlot.the-variants.{Bit, Complement, Direction}
-use Rattle.line.specs.declared.RomStage.the-variants.{Waiting, Command, Read, Match, Search}
-use Rattle.line.specs.declared.Stage.{Stage}
-use Rattle.line.specs.declared.Stage.the-variants.{Rom, Memory}
 use Rattle.device.specs.declared.LineState.{LineState}
 use Rattle.bus.specs.Refusal.{someByte, badTrace, badPulse, noRunRoom, runCauses, runRefusal}
 use Rattle.bus.specs.declared.Place.{Place}
-use Rattle.bus.specs.Bus.{eventOf}
-use Rattle.bus.specs.Loops.{placeIn, deviceAt, deviceIn, withBody, waitsIn, lineAt, servedOf, deviceAhead, ones, bitMark, searchMark, romMark, markOf, aheadWith, aheads, masterLevel, slotAt, slotsFrom, slotLevels, given, putLevels, turnedImage, BusState, busState, turnAt, turns, filled, RunState, Reached, stretchAt, stretches, events}
-use Rattle.bus.proofs.Runs.{stretch-same}
+use Rattle.bus.specs.Bus.{eventOf, nextBody}
+use Rattle.bus.specs.Loops.{placeIn, deviceAt, deviceIn, withBody, turnImage, lineAt, servedOf, BusState, turnAt, turns, filled, RunState, eventAt, events}
+use Rattle.bus.proofs.Runs.{next-length}
 
 -- ---- the place of a body
 
@@ -159,26 +148,24 @@ unfolding withBody
 with-body-length image place body h e =
     simp (length-append, length-drop, length-take-le (place .start) image (omega (arith, h .rising, h .within)), e) (omega (arith, h .rising, h .within))
 
-turned-length : (image : List ℕ) (i : ℕ) (state : LineState) (byte stretch : ℕ) → length (turnedImage image i state byte stretch) ≡ length image
-unfolding turnedImage deviceIn deviceAt
-turned-length image i state byte stretch =
+turn-image-length : (image : List ℕ) (i : ℕ) (state : LineState) (byte : ℕ) (level : Bool) → length (turnImage image i state byte level) ≡ length image
+unfolding turnImage deviceIn deviceAt
+turn-image-length image i state byte level =
     let h = place-inside image i in
-    let d = deviceIn image i state in
-    with-body-length image (placeIn image i) (given byte stretch d .body) h
-    (stretch-same (eventOf byte) (levelsIn stretch) (countIn stretch) d .size
+    with-body-length image (placeIn image i) (nextBody (eventOf byte) level (deviceIn image i state)) h
+    (next-length (eventOf byte) level (deviceIn image i state)
     ∙ length-take-le (placeIn image i .end - placeIn image i .start) (drop (placeIn image i .start) image) (rw length-drop (omega (arith, h .rising, h .within))))
 
-pub turns-image-length : (byte stretch i : ℕ) (s : BusState) → length (turns byte stretch i s .image) ≡ length (s .image)
+pub turns-image-length : (byte : ℕ) (level : Bool) (i : ℕ) (s : BusState) → length (turns byte level i s .image) ≡ length (s .image)
 unfolding turns turnAt
-turns-image-length byte stretch zero s = refl
-turns-image-length byte stretch (suc i) s =
-    let t = turns byte stretch i s in
-    turned-length (t .image) i (lineAt (t .lines) i) byte stretch ∙ turns-image-length byte stretch i s
+turns-image-length byte level zero s = refl
+turns-image-length byte level (suc i) s =
+    turn-image-length (turns byte level i s .image) i (lineAt (turns byte level i s .lines) i) byte level ∙ turns-image-length byte level i s
 
-pub turns-lines-length : (byte stretch i : ℕ) (s : BusState) → length (turns byte stretch i s .lines) ≡ length (s .lines)
+pub turns-lines-length : (byte : ℕ) (level : Bool) (i : ℕ) (s : BusState) → length (turns byte level i s .lines) ≡ length (s .lines)
 unfolding turns turnAt
-turns-lines-length byte stretch zero s = refl
-turns-lines-length byte stretch (suc i) s = simp (length-set, turns-lines-length byte stretch i s)
+turns-lines-length byte level zero s = refl
+turns-lines-length byte level (suc i) s = simp (length-set, turns-lines-length byte level i s)
 
 -- ---- how many devices have a line state
 
@@ -192,175 +179,17 @@ served-lines image lines = served-at lines (countOf image) (ltb lines (countOf i
 
 -- ---- the run's state
 
-put-length : (answers : List ℕ) (k levels c : ℕ) → length (putLevels answers k levels c) ≡ length answers
-unfolding putLevels
-put-length answers k levels zero = refl
-put-length answers k levels (suc c) = simp (length-set, put-length answers k levels c)
+pub events-image-length : (trace : List ℕ) (n k : ℕ) (s : RunState) → length (events trace n k s .image) ≡ length (s .image)
+unfolding events eventAt
+events-image-length trace n zero s = refl
+events-image-length trace n (suc k) s = turns-image-length (getD trace k 0) _ n _ ∙ events-image-length trace n k s
 
--- what a run's state keeps: the lengths
-pub record Sized (s t : RunState) : Type 0 where
-  pub image : length (s .image) ≡ length (t .image)
-  pub answers : length (s .answers) ≡ length (t .answers)
-  pub lines : length (s .lines) ≡ length (t .lines)
+pub events-answers-length : (trace : List ℕ) (n k : ℕ) (s : RunState) → length (events trace n k s .answers) ≡ length (s .answers)
+unfolding events eventAt
+events-answers-length trace n zero s = refl
+events-answers-length trace n (suc k) s = simp (length-set, events-answers-length trace n k s)
 
-stretch-sized : (trace : List ℕ) (n : ℕ) (p : Reached) → Sized (stretchAt trace n p .left) (p .left)
-unfolding stretchAt
-stretch-sized trace n p =
-    let s = busState (p .left .image) (p .left .lines) in
-    record {
-      image = turns-image-length (getD trace (p .next) 0) _ n s;
-      answers = put-length (p .left .answers) (p .next) _ _;
-      lines = turns-lines-length (getD trace (p .next) 0) _ n s;
-    }
-
-pub stretches-sized : (trace : List ℕ) (n m : ℕ) (p : Reached) → Sized (stretches trace n m p .left) (p .left)
-unfolding stretches
-stretches-sized trace n zero p = record { image = refl; answers = refl; lines = refl }
-stretches-sized trace n (suc m) p = choose (ltb (stretches trace n m p .next) (length trace)) (stretches trace n m p) (stretches-sized trace n m p)
-  where
-    choose : (b : Bool) (q : Reached) → Sized (q .left) (p .left) → Sized (cond b (stretchAt trace n q) q .left) (p .left)
-    choose true q h = let g = stretch-sized trace n q in record { image = g .image ∙ h .image; answers = g .answers ∙ h .answers; lines = g .lines ∙ h .lines }
-    choose false q h = h
-
-pub events-sized : (trace : List ℕ) (n m : ℕ) (s : RunState) → Sized (events trace n m s) s
-unfolding events
-events-sized trace n m s = stretches-sized trace n m (record { next = 0; left = s })
-
--- ---- a stretch
-
--- a level as a byte
-pub level-byte : (level : Bool) → boolByte level ≡ levelByte level
-unfolding levelByte
-level-byte true = refl
-level-byte false = refl
-
--- slots of a trace, as many as are known
-pub slots-step : (trace : List ℕ) (k ahead j m : ℕ) → j < m → slotAt trace k ≡ true → knownAt ahead j ≡ true
-    → slotsFrom trace k ahead j (m - j) ≡ suc (slotsFrom trace (k + 1) ahead (j + 1) (m - (j + 1)))
-unfolding slotsFrom
-slots-step trace k ahead j m h s t =
-    let e : m - j ≡ suc (m - (j + 1)) = omega arith in
-    let f : suc k ≡ k + 1 = omega arith in
-    let g : suc j ≡ j + 1 = omega arith in
-    ap (slotsFrom trace k ahead j) e ∙ rw (s, t, f, g)
-
-pub slots-stop : (trace : List ℕ) (k ahead j m : ℕ) → (slotAt trace k && knownAt ahead j) ≡ false → slotsFrom trace k ahead j m ≡ 0
-unfolding slotsFrom
-slots-stop trace k ahead j zero e = refl
-slots-stop trace k ahead j (suc m) e = rw e
-
--- the levels of slots are a number of so many bits
-pub bit-fits : (b : Bool) → cond b 1 0 < 2
-bit-fits true = omega arith
-bit-fits false = omega arith
-
-pub levels-fit : (trace : List ℕ) (k ahead j m : ℕ) → slotLevels trace k ahead j m < 2 ^ m
-unfolding slotLevels
-levels-fit trace k ahead j zero = omega arith
-levels-fit trace k ahead j (suc m) =
-    omega (arith, levels-fit trace (suc k) ahead (suc j) m, two-pow-succ m, bit-fits (masterLevel (eventOf (getD trace k 0)) && bitOf (levelsIn ahead) j))
-
-pub levels-step : (trace : List ℕ) (k ahead j m : ℕ) → 0 < j → j ≤ m
-    → slotLevels trace (k + (j - 1)) ahead (j - 1) (m - (j - 1)) ≡ 2 * slotLevels trace (k + j) ahead j (m - j) + cond (masterLevel (eventOf (getD trace (k + (j - 1)) 0)) && bitOf (levelsIn ahead) (j - 1)) 1 0
-unfolding slotLevels
-levels-step trace k ahead j m h h′ =
-    let e : m - (j - 1) ≡ suc (m - j) = omega arith in
-    let f : suc (k + (j - 1)) ≡ k + j = omega arith in
-    let g : suc (j - 1) ≡ j = omega arith in
-    ap (slotLevels trace (k + (j - 1)) ahead (j - 1)) e ∙ rw (f, g)
-
-pub slots-none : (trace : List ℕ) (k ahead j m : ℕ) → m ≡ 0 → slotsFrom trace k ahead j m ≡ 0
-unfolding slotsFrom
-slots-none trace k ahead j zero e = refl
-slots-none trace k ahead j (suc m) e = absurd (omega arith)
-
--- an event that is a slot is in the trace
-pub slot-there : (trace : List ℕ) (k : ℕ) → slotAt trace k ≡ true → k < length trace
-unfolding slotAt
-slot-there trace k e = choose (ltb k (length trace)) refl e
-  where
-    choose : (b : Bool) → ltb k (length trace) ≡ b → (b && ltb (getD trace k 0) 2) ≡ true → k < length trace
-    choose true h f = ltb-true k (length trace) h
-    choose false h f = absurd (true≢false (sym f))
-
-pub levels-none : (trace : List ℕ) (k ahead j m : ℕ) → m ≡ 0 → 0 ≡ slotLevels trace k ahead j m
-unfolding slotLevels
-levels-none trace k ahead j zero e = refl
-levels-none trace k ahead j (suc m) e = absurd (omega arith)
-
-pub levels-few : (trace : List ℕ) (k ahead j m : ℕ) → m < 32 → slotLevels trace k ahead j m < 2147483648
-levels-few trace k ahead j m h =
-    let most : m ≤ 31 = omega arith in
-    let big : 2 ^ m ≤ 2 ^ 31 = pow-mono most in
-    omega (arith, levels-fit trace k ahead j m, big)
-
-pub byte-few : (level : Bool) → boolByte level < 2
-byte-few true = omega arith
-byte-few false = omega arith
-
-pub byte-cond : (level : Bool) → boolByte level ≡ cond level 1 0
-byte-cond true = refl
-byte-cond false = refl
-
--- what is sent ahead is a word
-pub both-small : (a b : ℕ) → bothSlots a b < 0x10000000000
-unfolding bothSlots smaller
-both-small a b = choose (ltb (countIn a) (countIn b))
-  where
-    choose : (t : Bool) → 4294967296 * cond t (countIn a) (countIn b) + bitAnd (levelsIn a) (levelsIn b) < 0x10000000000
-    choose true = omega (arith, and-le-l (levelsIn a) (levelsIn b))
-    choose false = omega (arith, and-le-l (levelsIn a) (levelsIn b))
-
--- a mark stands above the slots of a word
-search-above : (i at : ℕ) (slot : SearchSlot) → (u : ℕ) × (searchMark i at slot ≡ 0x10000000000 * u) × (u < 65536)
-unfolding searchMark bitMark
-search-above i at Bit = choose (ltb i 64) refl (ltb at 64) refl
-  where
-    choose : (a : Bool) → ltb i 64 ≡ a → (b : Bool) → ltb at 64 ≡ b
-        → (u : ℕ) × (cond (a && b) (0x10000000000 * (at + 1) + 0x1000000000000 * i) 0 ≡ 0x10000000000 * u) × (u < 65536)
-    choose true a true b =
-        let few = ltb-true i 64 a in
-        let low = ltb-true at 64 b in
-        (at + 1 + 256 * i, omega arith, omega arith)
-    choose true a false b = (0, refl, omega arith)
-    choose false a b e = (0, refl, omega arith)
-search-above i at Complement = (0, refl, omega arith)
-search-above i at Direction = (0, refl, omega arith)
-
-mark-above : (i : ℕ) (stage : Stage) → (u : ℕ) × (markOf i stage ≡ 0x10000000000 * u) × (u < 65536)
-unfolding markOf romMark
-mark-above i (Rom Waiting) = (0, refl, omega arith)
-mark-above i (Rom (Command bits value)) = (0, refl, omega arith)
-mark-above i (Rom (Read at)) = (0, refl, omega arith)
-mark-above i (Rom (Match at)) = (0, refl, omega arith)
-mark-above i (Rom (Search at slot)) = search-above i at slot
-mark-above i (Memory m) = (0, refl, omega arith)
-
--- a word with a mark has the slots of the word
-pub record Marked (word marked : ℕ) : Type 0 where
-  pub levels : levelsIn marked ≡ levelsIn word
-  pub count : countIn marked ≡ countIn word
-  pub fits : marked < 2 ^ 64
-
-pub both-marked : (a b i : ℕ) (stage : Stage) (t : Bool) → Marked (bothSlots a b) (bothSlots a b + cond t (markOf i stage) 0)
-both-marked a b i stage true =
-    let small = both-small a b in
-    let m = mark-above i stage in
-    let u = m .0 in
-    let is : markOf i stage ≡ 0x10000000000 * u = m .1 in
-    let few : u < 65536 = m .2 in
-    record { levels = omega arith; count = omega arith; fits = omega arith }
-both-marked a b i stage false = let small = both-small a b in record { levels = omega arith; count = omega arith; fits = omega arith }
-
-pub aheads-fit : (image : List ℕ) (lines : List LineState) (i : ℕ) → aheads image lines i < 2 ^ 64
-unfolding aheads aheadWith
-aheads-fit image lines zero = lit< tt
-aheads-fit image lines (suc i) = choose (waitsIn (lineAt lines i .stage)) (aheads-fit image lines i)
-  where
-    word : ℕ
-    word = aheads image lines i
-
-    choose : (t : Bool) → word < 2 ^ 64
-        → cond t word (bothSlots word (deviceAhead (deviceIn image i (lineAt lines i))) + cond (eqb word ones) (markOf i (lineAt lines i .stage)) 0) < 2 ^ 64
-    choose true h = h
-    choose false h = both-marked word (deviceAhead (deviceIn image i (lineAt lines i))) i (lineAt lines i .stage) (eqb word ones) .fits
+pub events-lines-length : (trace : List ℕ) (n k : ℕ) (s : RunState) → length (events trace n k s .lines) ≡ length (s .lines)
+unfolding events eventAt
+events-lines-length trace n zero s = refl
+events-lines-length trace n (suc k) s = turns-lines-length (getD trace k 0) _ n _ ∙ events-lines-length trace n k s

@@ -4,17 +4,14 @@
 --     Same, run-same   a run changes no device's kind, no body's length and no code
 use Prim.Native.Nat.{ℕ, zero, suc}
 use mathlib.Core.Path.{_≡_, refl, ap, _∙_}
-use mathlib.Core.Bool.{Bool, true}
+use mathlib.Core.Bool.{Bool}
 use mathlib.Core.List.{List, [], _∷_, _++_, map}
 use lib.ListN.{length, take, drop}
-use Rattle.bits.specs.Bit.{bitOf}
 use Rattle.kind.specs.Kind.{codeLength}
-use Rattle.device.specs.Through.{slotLeaves, slotsLeave}
 use Rattle.device.proofs.Laws.{write-length, reset-length, program-length, write-code, reset-code, program-code}
 use Rattle.bus.specs.declared.Event.{Event}
 use Rattle.bus.specs.declared.Event.the-variants.{Slot, Reset, Pulse}
 use Rattle.bus.specs.Bus.{Device, eventOf, nextBody, nextDevice, busStepAt, busStep, Run, withAnswer, runTrace}
-use Rattle.bus.specs.Loops.{afterSlots, afterStretch}
 
 -- ---- one trace after another
 
@@ -80,28 +77,8 @@ pub same-length : {ds es : List Device} → AllSame ds es → length ds ≡ leng
 same-length none = refl
 same-length (also a p) = ap suc (same-length p)
 
--- ---- a stretch of a trace changes none of it either
-
-slots-same : (levels count : ℕ) (d : Device) → Same (afterSlots levels count d) d
-unfolding afterSlots slotsLeave slotLeaves
-slots-same levels zero d = record { kind = refl; size = refl; code = refl }
-slots-same levels (suc n) d =
-    let before = slots-same levels n d in
-    let e = afterSlots levels n d in
-    record {
-      kind = refl;
-      size = write-length (e .state) (e .kind) (e .body) (bitOf levels n) ∙ before .size;
-      code = write-code (e .state) (e .kind) (e .body) (bitOf levels n) ∙ before .code;
-    }
-
-pub stretch-same : (event : Event) (levels count : ℕ) (d : Device) → Same (afterStretch event levels count d) d
-unfolding afterStretch
-stretch-same (Slot sent) levels count d = slots-same levels count d
-stretch-same Reset levels count d = next-same Reset true d
-stretch-same Pulse levels count d = next-same Pulse true d
-
 -- where the first i of them have been changed
-pub part-same : (f : Device → Device) → ((d : Device) → Same (f d) d) → (i : ℕ) (ds : List Device) → AllSame (map f (take i ds) ++ drop i ds) ds
-part-same f same zero ds = all-self ds
-part-same f same (suc i) [] = none
-part-same f same (suc i) (d ∷ ds) = also (same d) (part-same f same i ds)
+pub part-same : (event : Event) (level : Bool) (i : ℕ) (ds : List Device) → AllSame (map (nextDevice event level) (take i ds) ++ drop i ds) ds
+part-same event level zero ds = all-self ds
+part-same event level (suc i) [] = none
+part-same event level (suc i) (d ∷ ds) = also (next-same event level d) (part-same event level i ds)

@@ -1,15 +1,15 @@
 -- Where the image is not refused and there is room, what the loops of `specs/Loops.antt` do is what `specs/Bus.antt` and `specs/Run.antt` say.
 use Prim.Native.Nat.{ℕ, zero, suc, _+_, _-_, _*_, _<_, _≤_}
 use mathlib.Core.Path.{_≡_, refl, sym, ap, subst, _∙_}
-use mathlib.Core.Bool.{Bool, true, false, not, cond}
+use mathlib.Core.Bool.{Bool, not}
 use mathlib.Core.List.{List, [], _∷_, _++_, map, append-assoc, append-nil, map-append}
 use native.Mathlib.Omega.{arith}
 use native.Mathlib.Nat.{add-zero}
 use native.Mathlib.Numerals.{add-one}
 use lib.ListN.{length, getD, set, take, drop, replicate, length-append, length-map, length-replicate, take-append-drop, replicate-append-replicate, List·getD-append}
-use lib.Seq.{length-take-le, getD-take, take-at, drop-at, getD-at, set-at, drop-append-add, take-suc, drop-cons, append-snoc, take-length, drop-length, drop-drop, take-add, split-at}
-use lib.Dec.{T, eqb, ltb}
-use borrow.Author.Tests.{lt-ltb, le-ltb, le-leb, ltb-true, ltb-false}
+use lib.Seq.{length-take-le, getD-take, take-at, drop-at, getD-at, set-at, drop-append-add, take-suc, drop-cons, append-snoc, take-length, drop-length, drop-drop}
+use lib.Dec.{T, eqb}
+use borrow.Author.Tests.{lt-ltb, le-ltb, le-leb}
 use Rattle.kind.specs.declared.Kind.{Kind}
 use Rattle.kind.specs.declared.Kind.the-variants.{Unknown}
 use Rattle.kind.specs.Kind.{kindOf, bodySize, codeLength}
@@ -17,16 +17,15 @@ use Rattle.image.specs.Image.{countOf, familyAt, offsetAt, kindAt, packedAt, bo
 use Rattle.image.specs.Refusal.{imageRefusal}
 use Rattle.image.proofs.Accepted.{Known, accepted-known, body-length, body-code}
 use Rattle.device.specs.declared.LineState.{LineState}
-use Rattle.bits.specs.Slots.{slotsWord, levelsIn, countIn}
 use Rattle.device.specs.Device.{waitingState}
 use Rattle.bus.specs.declared.Place.{Place}
-use Rattle.bus.specs.Bus.{Device, deviceWith, eventOf, Run, runTrace}
+use Rattle.bits.specs.Bit.{levelByte}
+use Rattle.bus.specs.Bus.{Device, deviceWith, eventOf, levelOf, nextState, nextBody, nextDevice, busStepAt, busStep, Run, withAnswer, runTrace}
 use Rattle.bus.specs.Run.{devicesFrom, waitingDevices, tableOfContents, bodiesOf, statesOf, runOutcome, leftByRun, runAt, runOf, RunOutcome, RunLeaves}
 use Rattle.bus.specs.Refusal.{someByte, badTrace, badPulse, runRefusal}
-use Rattle.bus.specs.Loops.{placeIn, deviceAt, deviceIn, withBody, servedOf, lineAt, ones, aheadWith, aheads, afterStretch, given, stretchFrom, putLevels, turnedState, turnedImage, BusState, busState, turnAt, turns, filled, RunState, runState, Reached, stretchAt, stretches, events}
+use Rattle.bus.specs.Loops.{placeIn, deviceAt, deviceIn, withBody, turnState, turnImage, devicesIn, levelOn, servedOf, lineAt, BusState, busState, turnAt, turns, filled, RunState, runState, eventAt, events}
 use Rattle.bus.proofs.Laws.{admitted, not-refused}
-use Rattle.bus.proofs.Runs.{runAfter, run-append, run-length, run-same, AllSame, none, also, stretch-same, part-same, same-length}
-use Rattle.bus.proofs.Stretches.{withDevice, aheadsOn, aheads-more, answersOf, countAt, levelsAt, stretch-is, stretch-some, stretch-within, stretch-levels, count-few, put-is}
+use Rattle.bus.proofs.Runs.{runAfter, run-append, run-length, run-same, AllSame, none, also, part-same, same-length}
 
 -- ---- devices that stand at the entries of an image from i on
 pub record Entered (image : List ℕ) (i : ℕ) (d : Device) : Type 0 where
@@ -76,20 +75,12 @@ place-known : (image : List ℕ) (i : ℕ) → i < countOf image → offsetAt im
 unfolding placeIn
 place-known image i h fits = rw (lt-ltb i (countOf image) h, le-leb (offsetAt image i + bodySize (kindAt image i)) (length image) fits)
 
--- as far as the end, if not short of it
-whole : (a b : ℕ) → a ≤ b → (a < b → b ≤ a) → a ≡ b
-whole a b h f = choose (ltb a b) refl
-  where
-    choose : (t : Bool) → ltb a b ≡ t → a ≡ b
-    choose true e = omega (arith, h, f (ltb-true a b e))
-    choose false e = omega (arith, h, ltb-false a b e)
-
 -- what stands past the end of a list of devices, which nothing reads
 abbrev pub nobody : Device
 nobody = deviceWith Unknown [] waitingState
 
 module _ (image : List ℕ) (known : Known image) where
-  -- the image of devices: its table of contents is this image's
+  -- the image of devices: its header is this image's
   abbrev pub imageOf : List Device → List ℕ
   imageOf ds = tableOfContents image ++ bodiesOf ds
 
@@ -203,73 +194,65 @@ module _ (image : List ℕ) (known : Known image) where
         ∙ sym (lines-split xs e ys)
 
     -- the turn of one device
-    turn-is : (byte stretch : ℕ) (xs : List Device) (d : Device) (ys : List Device) → Stand image 0 (xs ++ d ∷ ys) → length (xs ++ d ∷ ys) ≡ countOf image
-        → turnAt byte stretch (length xs) (busStateOf (xs ++ d ∷ ys)) ≡ busStateOf (xs ++ given byte stretch d ∷ ys)
-    unfolding turnAt turnedImage turnedState
-    turn-is byte stretch xs d ys stand all =
+    turn-is : (byte : ℕ) (level : Bool) (xs : List Device) (d : Device) (ys : List Device) → Stand image 0 (xs ++ d ∷ ys) → length (xs ++ d ∷ ys) ≡ countOf image
+        → turnAt byte level (length xs) (busStateOf (xs ++ d ∷ ys)) ≡ busStateOf (xs ++ nextDevice (eventOf byte) level d ∷ ys)
+    unfolding turnAt turnImage turnState nextDevice
+    turn-is byte level xs d ys stand all =
         let P = imageOf (xs ++ d ∷ ys) in
         let i = length xs in
-        let f = given byte stretch in
+        let e = nextDevice (eventOf byte) level d in
         let L = linesOf (xs ++ d ∷ ys) in
-        ap (λ (s : LineState). busState (turnedImage P i s byte stretch) (set L i (turnedState P i s byte stretch))) (line-is xs d ys)
-        ∙ ap (λ (c : Device). busState (withBody P (placeIn P i) (f c .body)) (set L i (f c .state))) (device-is xs d ys stand all)
-        ∙ ap (λ (l : List ℕ). busState l (set L i (f d .state))) (body-put xs d ys stand all (f d))
-        ∙ ap (λ (l : List LineState). busState (imageOf (xs ++ f d ∷ ys)) l) (line-put xs d (f d) ys)
+        ap (λ (s : LineState). busState (turnImage P i s byte level) (set L i (turnState P i s byte level))) (line-is xs d ys)
+        ∙ ap (λ (c : Device). busState (withBody P (placeIn P i) (nextBody (eventOf byte) level c)) (set L i (nextState (eventOf byte) level c))) (device-is xs d ys stand all)
+        ∙ ap (λ (l : List ℕ). busState l (set L i (e .state))) (body-put xs d ys stand all e)
+        ∙ ap (λ (l : List LineState). busState (imageOf (xs ++ e ∷ ys)) l) (line-put xs d e ys)
+
+    -- the devices that the image and the line states give are those that stand there
+    devices-are : (xs ys : List Device) → Stand image 0 (xs ++ ys) → length (xs ++ ys) ≡ countOf image → devicesIn (imageOf (xs ++ ys)) (length xs) (statesOf ys) ≡ ys
+    unfolding devicesIn
+    devices-are xs [] stand all = refl
+    devices-are xs (d ∷ ys) stand all =
+        let cut : (xs ++ d ∷ []) ++ ys ≡ xs ++ d ∷ ys = append-snoc xs d ys in
+        let len : length (xs ++ d ∷ []) ≡ suc (length xs) = omega (arith, length-append xs (d ∷ [])) in
+        ap (λ (c : Device). c ∷ devicesIn (imageOf (xs ++ d ∷ ys)) (suc (length xs)) (statesOf ys)) (device-is xs d ys stand all)
+        ∙ ap (λ (l : List Device). d ∷ l)
+        (ap (λ (l : List Device). devicesIn (imageOf l) (suc (length xs)) (statesOf ys)) (sym cut)
+        ∙ ap (λ (m : ℕ). devicesIn (imageOf ((xs ++ d ∷ []) ++ ys)) m (statesOf ys)) (sym len)
+        ∙ devices-are (xs ++ d ∷ []) ys (subst (Stand image 0) (sym cut) stand) (ap length cut ∙ all))
 
     module _ (ds : List Device) (stand : Stand image 0 ds) (all : length ds ≡ countOf image) where
       -- the turns of the first i devices
-      turns-are : (byte stretch i : ℕ) → i ≤ length ds → turns byte stretch i (busStateOf ds) ≡ busStateOf (map (given byte stretch) (take i ds) ++ drop i ds)
+      turns-are : (byte : ℕ) (level : Bool) (i : ℕ) → i ≤ length ds → turns byte level i (busStateOf ds) ≡ busStateOf (map (nextDevice (eventOf byte) level) (take i ds) ++ drop i ds)
       unfolding turns
-      turns-are byte stretch zero h = refl
-      turns-are byte stretch (suc i) h =
-          let f = given byte stretch in
+      turns-are byte level zero h = refl
+      turns-are byte level (suc i) h =
+          let f = nextDevice (eventOf byte) level in
           let d = getD ds i nobody in
           let xs = map f (take i ds) in
           let ys = drop (suc i) ds in
           let len : length xs ≡ i = length-map (take i ds) f ∙ length-take-le i ds (omega arith) in
           let cut : xs ++ drop i ds ≡ xs ++ d ∷ ys = ap (λ (l : List Device). xs ++ l) (drop-cons ds i nobody h) in
-          let same : AllSame (xs ++ d ∷ ys) ds = subst (λ (l : List Device). AllSame l ds) cut (part-same f (stretch-same (eventOf byte) (levelsIn stretch) (countIn stretch)) i ds) in
-          ap (turnAt byte stretch i) (turns-are byte stretch i (omega arith) ∙ ap busStateOf cut)
-          ∙ ap (λ (j : ℕ). turnAt byte stretch j (busStateOf (xs ++ d ∷ ys))) (sym len)
-          ∙ turn-is byte stretch xs d ys (stand-same image 0 same stand) (same-length same ∙ all)
+          let same : AllSame (xs ++ d ∷ ys) ds = subst (λ (l : List Device). AllSame l ds) cut (part-same (eventOf byte) level i ds) in
+          ap (turnAt byte level i) (turns-are byte level i (omega arith) ∙ ap busStateOf cut)
+          ∙ ap (λ (j : ℕ). turnAt byte level j (busStateOf (xs ++ d ∷ ys))) (sym len)
+          ∙ turn-is byte level xs d ys (stand-same image 0 same stand) (same-length same ∙ all)
           ∙ ap busStateOf (sym (ap (λ (l : List Device). map f l ++ ys) (take-suc ds i nobody h) ∙ ap (λ (l : List Device). l ++ ys) (map-append f (take i ds) (d ∷ [])) ∙ append-snoc xs (f d) ys))
 
-      -- what the first i devices send ahead
-      device-at : (i : ℕ) → i < length ds → deviceIn (imageOf ds) i (lineAt (linesOf ds) i) ≡ getD ds i nobody
-      device-at i h =
-          let d = getD ds i nobody in
-          let xs = take i ds in
-          let ys = drop (suc i) ds in
-          let cut : ds ≡ xs ++ d ∷ ys = split-at ds i nobody h in
-          let len : length xs ≡ i = length-take-le i ds (omega arith) in
-          ap (λ (j : ℕ). deviceIn (imageOf ds) j (lineAt (linesOf ds) j)) (sym len)
-          ∙ ap (λ (l : List Device). deviceIn (imageOf l) (length xs) (lineAt (linesOf l) (length xs))) cut
-          ∙ ap (deviceIn (imageOf (xs ++ d ∷ ys)) (length xs)) (line-is xs d ys)
-          ∙ device-is xs d ys (subst (Stand image 0) cut stand) (sym (ap length cut) ∙ all)
+      pub level-is : (byte : ℕ) → levelOn (imageOf ds) (linesOf ds) byte ≡ levelOf (eventOf byte) ds
+      unfolding levelOn
+      level-is byte =
+          let len : length (statesOf ds) ≡ countOf image = length-map ds (λ (x : Device). x .state) ∙ all in
+          ap (λ (n : ℕ). levelOf (eventOf byte) (devicesIn (imageOf ds) 0 (take n (linesOf ds)))) (count-kept ds)
+          ∙ ap (λ (l : List LineState). levelOf (eventOf byte) (devicesIn (imageOf ds) 0 l)) (take-at (statesOf ds) tail (countOf image) len)
+          ∙ ap (levelOf (eventOf byte)) (devices-are [] ds stand all)
 
-      aheads-are : (i : ℕ) → i ≤ length ds → aheads (imageOf ds) (linesOf ds) i ≡ aheadsOn ones 0 (take i ds)
-      unfolding aheads aheadWith deviceIn deviceAt
-      aheads-are zero h = refl
-      aheads-are (suc i) h =
-          let index : 0 + length (take i ds) ≡ i = omega (arith, length-take-le i ds (omega arith)) in
-          ap (λ (w : ℕ). withDevice w i (deviceIn (imageOf ds) i (lineAt (linesOf ds) i))) (aheads-are i (omega arith))
-          ∙ ap (withDevice (aheadsOn ones 0 (take i ds)) i) (device-at i h)
-          ∙ sym (ap (aheadsOn ones 0) (take-suc ds i nobody h) ∙ aheads-more ones 0 (take i ds) (getD ds i nobody)
-          ∙ ap (λ (k : ℕ). withDevice (aheadsOn ones 0 (take i ds)) k (getD ds i nobody)) index)
-
-      ahead-is : aheads (imageOf ds) (linesOf ds) (countOf image) ≡ aheadsOn ones 0 ds
-      ahead-is =
-          ap (aheads (imageOf ds) (linesOf ds)) (sym all)
-          ∙ aheads-are (length ds) (omega arith)
-          ∙ ap (aheadsOn ones 0) (take-length ds)
-
-      turned-is : (byte stretch : ℕ) → turns byte stretch (length ds) (busStateOf ds) ≡ busStateOf (map (given byte stretch) ds)
-      turned-is byte stretch =
-          let f = given byte stretch in
-          turns-are byte stretch (length ds) (omega arith)
+      pub turned-is : (byte : ℕ) (level : Bool) → turns byte level (length ds) (busStateOf ds) ≡ busStateOf (map (nextDevice (eventOf byte) level) ds)
+      turned-is byte level =
+          let f = nextDevice (eventOf byte) level in
+          turns-are byte level (length ds) (omega arith)
           ∙ ap busStateOf (ap (λ (l : List Device). map f (take (length ds) ds) ++ l) (drop-length ds) ∙ append-nil (map f (take (length ds) ds)) ∙ ap (map f) (take-length ds))
 
-    -- ---- the stretches of a trace, on devices that stand at the entries
+    -- ---- the events of a trace, on devices that stand at the entries
     module _ (trace answers : List ℕ) (room : length trace ≤ length answers) (ds : List Device) (stand : Stand image 0 ds) (all : length ds ≡ countOf image) where
       -- after k events
       abbrev ran : ℕ → Run
@@ -278,103 +261,41 @@ module _ (image : List ℕ) (known : Known image) where
       abbrev runStateOf : ℕ → RunState
       runStateOf k = runState (imageOf (ran k .devices)) (ran k .answers ++ drop k answers) (linesOf (ran k .devices))
 
-      abbrev reached : ℕ → Reached
-      reached k = record { next = k; left = runStateOf k }
+      run-next : (k : ℕ) → k < length trace → ran (suc k) ≡ runAfter (ran k .answers) (runTrace (getD trace k 0 ∷ []) (ran k .devices))
+      run-next k h = ap (λ (t : List ℕ). runTrace t ds) (take-suc trace k 0 h) ∙ run-append (take k trace) (getD trace k 0 ∷ []) ds
 
-      -- the stretch from event k on
-      module _ (k : ℕ) (h : k < length trace) where
-        abbrev es : List Device
-        es = ran k .devices
+      answers-put : (k a : ℕ) → k < length trace → set (ran k .answers ++ drop k answers) k a ≡ (ran k .answers ++ a ∷ []) ++ drop (suc k) answers
+      answers-put k a h =
+          let len : length (ran k .answers) ≡ k = run-length (take k trace) ds ∙ length-take-le k trace (omega arith) in
+          ap (λ (l : List ℕ). set (ran k .answers ++ l) k a) (drop-cons answers k 0 (omega arith))
+          ∙ set-at (ran k .answers) (getD answers k 0) (drop (suc k) answers) a k len
+          ∙ sym (append-snoc (ran k .answers) a (drop (suc k) answers))
 
-        abbrev count : ℕ
-        count = countAt trace k es
+      -- one event
+      event-is : (k : ℕ) → k < length trace → eventAt (getD trace k 0) (countOf image) k (runStateOf k) ≡ runStateOf (suc k)
+      unfolding eventAt runTrace withAnswer busStep busStepAt
+      event-is k h =
+          let byte = getD trace k 0 in
+          let es = ran k .devices in
+          let same = run-same (take k trace) ds in
+          let stand′ = stand-same image 0 same stand in
+          let all′ : length es ≡ countOf image = same-length same ∙ all in
+          let level = levelOf (eventOf byte) es in
+          let after = map (nextDevice (eventOf byte) level) es in
+          ap (λ (b : Bool). runState (turns byte b (countOf image) (busStateOf es) .image) (set (ran k .answers ++ drop k answers) k (levelByte b)) (turns byte b (countOf image) (busStateOf es) .lines)) (level-is es stand′ all′ byte)
+          ∙ ap (λ (s : BusState). runState (s .image) (set (ran k .answers ++ drop k answers) k (levelByte level)) (s .lines)) (ap (λ (m : ℕ). turns byte level m (busStateOf es)) (sym all′) ∙ turned-is es stand′ all′ byte level)
+          ∙ ap (λ (l : List ℕ). runState (imageOf after) l (linesOf after)) (answers-put k (levelByte level) h)
+          ∙ ap (λ (r : Run). runState (imageOf (r .devices)) (r .answers ++ drop (suc k) answers) (linesOf (r .devices))) (sym (run-next k h))
 
-        abbrev levels : ℕ
-        levels = levelsAt trace k es
-
-        stand′ : Stand image 0 es
-        stand′ = stand-same image 0 (run-same (take k trace) ds) stand
-
-        all′ : length es ≡ countOf image
-        all′ = same-length (run-same (take k trace) ds) ∙ all
-
-        run-next : ran (k + count) ≡ record { answers = ran k .answers ++ answersOf levels count; devices = map (afterStretch (eventOf (getD trace k 0)) levels count) es }
-        run-next =
-            ap (λ (t : List ℕ). runTrace t ds) (take-add k count trace)
-            ∙ run-append (take k trace) (take count (drop k trace)) ds
-            ∙ ap (runAfter (ran k .answers)) (stretch-is trace k es h)
-
-        answers-put : putLevels (ran k .answers ++ drop k answers) k levels count ≡ (ran k .answers ++ answersOf levels count) ++ drop (k + count) answers
-        answers-put =
-            put-is (ran k .answers) answers k levels count (run-length (take k trace) ds ∙ length-take-le k trace (omega arith))
-            (omega (arith, room, stretch-within trace k es h))
-
-        -- the word has both
-        count-is : countIn (slotsWord levels count) ≡ count
-        count-is = omega (arith, stretch-levels trace k es, count-few trace k (aheadsOn ones 0 es))
-
-        levels-are : levelsIn (slotsWord levels count) ≡ levels
-        levels-are = omega (arith, stretch-levels trace k es)
-
-        stretch-at : stretchAt trace (countOf image) (reached k) ≡ reached (k + count)
-        unfolding stretchAt stretchFrom
-        stretch-at =
-            let n = countOf image in
-            let byte = getD trace k 0 in
-            let left = ran k .answers ++ drop k answers in
-            let w = slotsWord levels count in
-            let after = map (afterStretch (eventOf byte) levels count) es in
-            let by : ℕ → ℕ → Reached = λ v m. let t = turns byte v m (busStateOf es) in record { next = k + countIn v; left = runState (t .image) (putLevels left k (levelsIn v) (countIn v)) (t .lines) } in
-            let with : List Device → ℕ → ℕ → Reached = λ fs l c. record { next = k + c; left = runState (imageOf fs) (putLevels left k l c) (linesOf fs) } in
-            ap (λ (u : ℕ). by (stretchFrom trace k u n) n) (ahead-is es stand′ all′)
-            ∙ ap (λ (m : ℕ). by (stretchFrom trace k (aheadsOn ones 0 es) m) m) (sym all′)
-            ∙ ap (λ (t : BusState). record { next = k + countIn w; left = runState (t .image) (putLevels left k (levelsIn w) (countIn w)) (t .lines) }) (turned-is es stand′ all′ byte w)
-            ∙ ap (λ (l : ℕ). with (map (afterStretch (eventOf byte) l (countIn w)) es) l (countIn w)) levels-are
-            ∙ ap (λ (c : ℕ). with (map (afterStretch (eventOf byte) levels c) es) levels c) count-is
-            ∙ ap (λ (l : List ℕ). record { next = k + count; left = runState (imageOf after) l (linesOf after) }) answers-put
-            ∙ ap (λ (r : Run). record { next = k + count; left = runState (imageOf (r .devices)) (r .answers ++ drop (k + count) answers) (linesOf (r .devices)) }) (sym run-next)
-
-      -- m stretches come to some event, to as many as that at least, or to the end
-      pub record Comes (m : ℕ) : Type 0 where
-        at : ℕ
-        within : at ≤ length trace
-        far : at < length trace → m ≤ at
-        is : stretches trace (countOf image) m (reached 0) ≡ reached at
-
-      comes : (m : ℕ) → Comes m
-      unfolding stretches
-      comes zero = record { at = 0; within = omega arith; far = λ z. omega arith; is = refl }
-      comes (suc m) = choose (comes m) (ltb (comes m .at) (length trace)) refl
-        where
-          choose : (c : Comes m) (b : Bool) → ltb (c .at) (length trace) ≡ b → Comes (suc m)
-          choose c true e =
-              let h = ltb-true (c .at) (length trace) e in
-              let k = c .at + count (c .at) h in
-              record {
-                at = k;
-                within = stretch-within trace (c .at) (es (c .at) h) h;
-                far = λ z. omega (arith, c .far h, stretch-some trace (c .at) (es (c .at) h));
-                is = ap (λ (q : Reached). cond (ltb (q .next) (length trace)) (stretchAt trace (countOf image) q) q) (c .is)
-                    ∙ ap (λ (b : Bool). cond b (stretchAt trace (countOf image) (reached (c .at))) (reached (c .at))) e
-                    ∙ stretch-at (c .at) h;
-              }
-          choose c false e =
-              record {
-                at = c .at;
-                within = c .within;
-                far = λ z. absurd (omega (arith, z, ltb-false (c .at) (length trace) e));
-                is = ap (λ (q : Reached). cond (ltb (q .next) (length trace)) (stretchAt trace (countOf image) q) q) (c .is)
-                    ∙ ap (λ (b : Bool). cond b (stretchAt trace (countOf image) (reached (c .at))) (reached (c .at))) e;
-              }
+      events-are : (k : ℕ) → k ≤ length trace → events trace (countOf image) k (runState (imageOf ds) answers (linesOf ds)) ≡ runStateOf k
+      unfolding events runTrace
+      events-are zero h = refl
+      events-are (suc k) h = ap (eventAt (getD trace k 0) (countOf image) k) (events-are k (omega arith)) ∙ event-is k h
 
       pub run-is : events trace (countOf image) (length trace) (runState (imageOf ds) answers (linesOf ds))
           ≡ runState (imageOf (runTrace trace ds .devices)) (runTrace trace ds .answers ++ drop (length trace) answers) (linesOf (runTrace trace ds .devices))
-      unfolding events runTrace
       run-is =
-          let c = comes (length trace) in
-          let last : c .at ≡ length trace = whole (c .at) (length trace) (c .within) (c .far) in
-          ap (λ (q : Reached). q .left) (c .is)
-          ∙ ap runStateOf last
+          events-are (length trace) (omega arith)
           ∙ ap (λ (t : List ℕ). runState (imageOf (runTrace t ds .devices)) (runTrace t ds .answers ++ drop (length trace) answers) (linesOf (runTrace t ds .devices))) (take-length trace)
 
   -- ---- the devices at the start of a run
@@ -395,7 +316,7 @@ module _ (image : List ℕ) (known : Known image) where
   devices-states i [] = refl
   devices-states i (state ∷ states) = ap (λ (l : List LineState). state ∷ l) (devices-states (suc i) states)
 
-  -- their bodies are what follows the table of contents
+  -- their bodies are what follows the header
   devices-bodies : (i : ℕ) (states : List LineState) → i + length states ≡ countOf image → bodiesOf (devicesFrom image i states) ≡ drop (packedAt image i) image
   unfolding devicesFrom bodiesOf
   devices-bodies i [] e =

@@ -43,9 +43,6 @@ write-keeps (Memory (Sram s)) kind body level =
     record { same-length = sram.write-length s (sizeOf kind) body level; same-code = sram.write-code s (sizeOf kind) body level }
 write-keeps (Memory (Eprom e)) kind body level = kept
 
-pub stage-write-length : (stage : Stage) (kind : Kind) (body : List ℕ) (level : Bool) → length (stageWrite stage kind body level) ≡ length body
-stage-write-length stage kind body level = write-keeps stage kind body level .same-length
-
 reset-keeps : (stage : Stage) (body : List ℕ) → Keeps body (stageReset stage body)
 unfolding stageReset memoryReset
 reset-keeps (Rom r) body = kept

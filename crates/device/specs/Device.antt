@@ -132,8 +132,8 @@ waitingState = lineState waiting
 abbrev pub resetState : LineState
 resetState = lineState atRomCommand
 
--- Our own ruling, as document 01 has no such line state: one with a number outside its stage's range, in a memory function of another kind, or
--- with a body not of its kind's size is taken as waiting. A family that is not known has no bytes of a body.
+-- a line state with a number outside its stage's range is taken as waiting. Our own ruling, as document 01 has no such line state: so is one in a
+-- memory function of another kind, or with a body not of its kind's size. A family that is not known has no bytes of a body
 unfoldable pub taken : LineState → Kind → List ℕ → Stage
 taken state kind body = cond (eqb (length body) (bodySize kind) && stageRange (state .stage) kind) (state .stage) waiting
 

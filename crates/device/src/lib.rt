@@ -5,10 +5,8 @@
 use kind::Kind;
 use line::MemoryStage;
 use line::Stage;
-use line::Through;
 ghost use mathlib.Core.Path.{_≡_};
-ghost use Rattle.device.specs.Through.{memoryAhead, stageAhead, aheadOf, slotsLeave, stepsLeave, throughCommand, memoryThrough, stageThrough};
-ghost use Rattle.device.specs.Device.{sizeOf, memoryCommand, commandStep, sramIn, epromIn, memoryRange, stageRange, memorySends, stageSends, memoryStep, stageStep, memoryWrite, stageWrite, memoryReset, stageReset, memoryPulse, stagePulse, memoryProgram, stageProgram, waitingState, resetState, taken, sendsOf, stateAfterSlot, bodyAfterSlot, bodyAfterReset, stateAfterPulse, bodyAfterPulse, lineState};
+ghost use Rattle.device.specs.Device.{sizeOf, memoryCommand, commandStep, sramIn, epromIn, memoryRange, stageRange, memorySends, stageSends, memoryStep, stageStep, memoryWrite, stageWrite, memoryReset, stageReset, memoryPulse, stagePulse, memoryProgram, stageProgram, waitingState, resetState, taken, sendsOf, stateAfterSlot, bodyAfterSlot, bodyAfterReset, stateAfterPulse, bodyAfterPulse};
 
 // Where a device is on the line.
 pub struct LineState {
@@ -115,29 +113,6 @@ fn stage_sends(stage: Stage, body: &[u8]) -> bool
     }
 }
 
-// What is sent in the next slots.
-fn memory_ahead(m: MemoryStage, kind: Kind, body: &[u8]) -> u64
-    ensures { λ r. ⌜ r ≡ memoryAhead m kind (now (body .entry)) ⌝ }
-{
-    match m {
-        MemoryStage::Command { bits, value: _ } => bits::slots_word(
-            0xFFFFFFFF,
-            bits::left(bits, 8),
-        ),
-        MemoryStage::Sram(s) => sram::ahead(s, size_of(kind), body),
-        MemoryStage::Eprom(e) => eprom::ahead(e, body),
-    }
-}
-
-fn stage_ahead(stage: Stage, kind: Kind, body: &[u8]) -> u64
-    ensures { λ r. ⌜ r ≡ stageAhead stage kind (now (body .entry)) ⌝ }
-{
-    match stage {
-        Stage::Rom(r) => rom::ahead(r, body),
-        Stage::Memory(m) => memory_ahead(m, kind, body),
-    }
-}
-
 fn memory_step(m: MemoryStage, kind: Kind, body: &[u8], level: bool) -> Stage
     ensures { λ r. ⌜ r ≡ memoryStep m kind (now (body .entry)) level ⌝ }
 {
@@ -173,49 +148,6 @@ fn stage_write(stage: Stage, kind: Kind, body: &mut [u8], level: bool)
     match stage {
         Stage::Rom(_) => {}
         Stage::Memory(m) => memory_write(m, kind, body, level),
-    }
-}
-
-// A slot: the line state after it; the body is left as it does.
-fn slot(stage: Stage, kind: Kind, body: &mut [u8], level: bool) -> LineState
-    ensures { λ r. ⌜ (r ≡ lineState (stageStep stage kind (now (body .entry)) level)) × (now (body .exit) ≡ stageWrite stage kind (now (body .entry)) level) ⌝ }
-{
-    let next = stage_step(stage, kind, body, level);
-    stage_write(stage, kind, body, level);
-    LineState { stage: next }
-}
-
-// Bits of the memory command.
-fn through_command(bits: u8, value: u8, levels: u32, n: u8) -> Through
-    ensures { λ r. ⌜ r ≡ throughCommand bits value levels n ⌝ }
-{
-    if bits::within(bits, n, 8) {
-        Through::To(Stage::Memory(MemoryStage::Command {
-            bits: bits + n,
-            value: bits::shifts_in(value, levels, n),
-        }))
-    } else {
-        Through::EachSlot
-    }
-}
-
-// The stage after n slots at levels, the lowest bit first.
-fn memory_through(m: MemoryStage, kind: Kind, body: &[u8], levels: u32, n: u8) -> Through
-    ensures { λ r. ⌜ r ≡ memoryThrough m kind (now (body .entry)) levels n ⌝ }
-{
-    match m {
-        MemoryStage::Command { bits, value } => through_command(bits, value, levels, n),
-        MemoryStage::Sram(s) => sram::through(s, size_of(kind), body, levels, n),
-        MemoryStage::Eprom(e) => eprom::through(e, body, levels, n),
-    }
-}
-
-fn stage_through(stage: Stage, kind: Kind, body: &[u8], levels: u32, n: u8) -> Through
-    ensures { λ r. ⌜ r ≡ stageThrough stage kind (now (body .entry)) levels n ⌝ }
-{
-    match stage {
-        Stage::Rom(r) => rom::through(r, body, levels, n),
-        Stage::Memory(m) => memory_through(m, kind, body, levels, n),
     }
 }
 
@@ -362,76 +294,6 @@ impl LineState {
         stage_program(stage, body);
         LineState {
             stage: stage_pulse(stage),
-        }
-    }
-
-    // What the device sends in its next slots, whatever their levels are, as a word of slots.
-    pub fn ahead(self, kind: Kind, body: &[u8]) -> u64
-        ensures { λ r. ⌜ r ≡ aheadOf self kind (now (body .entry)) ⌝ }
-    {
-        stage_ahead(taken(self, kind, body), kind, body)
-    }
-
-    // Several slots one by one, at the levels that the bits say, the lowest first: the line state after them; the body is left as they do.
-    fn each_slot(self, kind: Kind, body: &mut [u8], levels: u32, count: u8) -> LineState
-        ensures { λ r. ⌜ record { state = r; body = now (body .exit) } ≡ slotsLeave kind levels count (record { state = self; body = now (body .entry) }) ⌝ }
-    {
-        let mut state = self;
-        let mut j: u8 = 0;
-        while j < count {
-            let level = bits::level_in(levels, j);
-            let next = state.step(kind, body, level);
-            state.write(kind, body, level);
-            state = next;
-            j = j + 1;
-        }
-        state
-    }
-
-    // The same at once, where all but the last of them stay within a unit: a command, an address, some bytes.
-    pub fn slots(self, kind: Kind, body: &mut [u8], levels: u32, count: u8) -> LineState
-        ensures { λ r. ⌜ (r ≡ slotsLeave kind levels count (record { state = self; body = now (body .entry) }) .state)
-            × (now (body .exit) ≡ slotsLeave kind levels count (record { state = self; body = now (body .entry) }) .body) ⌝ }
-    {
-        if count == 0 {
-            return self;
-        }
-        let n = count - 1;
-        let through = stage_through(taken(self, kind, body), kind, body, levels, n);
-        match through {
-            Through::To(last) => slot(last, kind, body, bits::level_in(levels, n)),
-            Through::EachSlot => self.each_slot(kind, body, levels, count),
-        }
-    }
-
-    // Several slots one by one, where the body is only read.
-    fn each_step(self, kind: Kind, body: &[u8], levels: u32, count: u8) -> LineState
-        ensures { λ r. ⌜ r ≡ stepsLeave kind (now (body .entry)) levels count self ⌝ }
-    {
-        let mut state = self;
-        let mut j: u8 = 0;
-        while j < count {
-            let next = state.step(kind, body, bits::level_in(levels, j));
-            state = next;
-            j = j + 1;
-        }
-        state
-    }
-
-    // The line state after several slots, where the body is only read.
-    pub fn steps(self, kind: Kind, body: &[u8], levels: u32, count: u8) -> LineState
-        ensures { λ r. ⌜ r ≡ stepsLeave kind (now (body .entry)) levels count self ⌝ }
-    {
-        if count == 0 {
-            return self;
-        }
-        let n = count - 1;
-        let through = stage_through(taken(self, kind, body), kind, body, levels, n);
-        match through {
-            Through::To(last) => LineState {
-                stage: stage_step(last, kind, body, bits::level_in(levels, n)),
-            },
-            Through::EachSlot => self.each_step(kind, body, levels, count),
         }
     }
 }

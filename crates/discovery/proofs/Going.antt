@@ -5,15 +5,19 @@ use mathlib.Core.Path.{_≡_, refl, sym, ap, _∙_, subst}
 use mathlib.Core.Bool.{Bool}
 use mathlib.Core.List.{List, [], _∷_, _++_, map, append-nil, append-assoc}
 use native.Mathlib.Omega.{arith}
-use lib.ListN.{length, replicate, length-append, length-map, length-replicate}
-use Rattle.bits.specs.Bit.{levelByte}
-use Rattle.image.specs.Image.{countOf, kindAt, bodyAt}
+use lib.ListN.{length, take, replicate, length-append, length-map, length-replicate, length-take}
+use borrow.Author.Tests.{lt-ltb, le-leb}
+use Rattle.kind.specs.Kind.{bodySize}
+use Rattle.image.specs.Image.{countOf, offsetAt, kindAt, bodyAt}
 use Rattle.image.specs.Refusal.{imageRefusal}
+use Rattle.image.proofs.Accepted.{Known, inside}
 use Rattle.device.specs.declared.LineState.{LineState}
 use Rattle.device.specs.Device.{waitingState}
 use Rattle.bus.specs.declared.Event.{Event}
+use Rattle.bits.specs.Bit.{levelByte}
 use Rattle.bus.specs.Bus.{Device, deviceWith, eventOf, levelOf, nextState, nextBody, nextDevice}
 use Rattle.bus.specs.Run.{devicesFrom, waitingDevices}
+use Rattle.bus.specs.Loops.{placeIn, deviceAt, deviceIn, turnState, devicesIn, levelOn}
 use Rattle.master.specs.declared.Master.{Master}
 use Rattle.master.specs.Master.{event, end, says, afterLevel, nextOf}
 use Rattle.master.specs.Drive.{started, codeCompleted}
@@ -108,9 +112,28 @@ module _ (image : List ℕ) (searched : Searched image (searchOf image)) {m : Ma
         each = simp length-map (devices-size image 0 lines ∙ g .each);
       }
 
-  -- the devices then are the image's, in their next line states
-  pub going-devices : (e : ℕ) → Going image m lines trace codes → says m ≡ event e
-      → map (nextDevice (eventOf e) (levelIn image lines e)) (devicesFrom image 0 lines) ≡ devicesFrom image 0 (linesAfter image lines e)
-  going-devices e g h =
-      let r = driven-goes e 0 (g .driven) (searched .ended) h in
-      lines-next image 0 lines (eventOf e) (levelIn image lines e) (rw (r .is-level) (r .same))
+-- ---- the functions of the bus, on an accepted image
+
+module _ (image : List ℕ) (known : Known image) where
+  -- a device that the bus finds by its place is the image's
+  device-in : (i : ℕ) (state : LineState) → i < countOf image → deviceIn image i state ≡ deviceWith (kindAt image i) (bodyAt image i) state
+  unfolding deviceIn deviceAt placeIn
+  device-in i state h =
+      let size : offsetAt image i + bodySize (kindAt image i) - offsetAt image i ≡ bodySize (kindAt image i) = omega arith in
+      rw (lt-ltb i (countOf image) h, le-leb (offsetAt image i + bodySize (kindAt image i)) (length image) (inside image known i h)) (rw size)
+
+  -- so one device's turn is its part of `linesAfter`
+  pub turn-in : (i : ℕ) (state : LineState) (e : ℕ) (level : Bool) → i < countOf image
+      → turnState image i state e level ≡ nextState (eventOf e) level (deviceWith (kindAt image i) (bodyAt image i) state)
+  unfolding turnState
+  turn-in i state e level h = ap (nextState (eventOf e) level) (device-in i state h)
+
+  devices-in : (i : ℕ) (lines : List LineState) → i + length lines ≤ countOf image → devicesIn image i lines ≡ devicesFrom image i lines
+  unfolding devicesIn devicesFrom
+  devices-in i [] h = refl
+  devices-in i (state ∷ lines) h = let d = device-in i state (omega arith) in let t = devices-in (suc i) lines (omega arith) in cc
+
+  -- and the level of the bus is that of the first n line states
+  pub level-in : (lines : List LineState) (e : ℕ) → levelOn image lines e ≡ levelIn image (take (countOf image) lines) e
+  unfolding levelOn
+  level-in lines e = ap (levelOf (eventOf e)) (devices-in 0 (take (countOf image) lines) (simp length-take (omega arith)))

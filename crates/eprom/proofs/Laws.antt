@@ -1,5 +1,5 @@
 -- Laws of the fields and of the view that the proofs of functions cite. Assumes nothing.
-use Prim.Native.Nat.{ℕ, _+_, _-_, _%_, _<_, _≤_}
+use Prim.Native.Nat.{ℕ, _+_, _-_, _<_, _≤_}
 use mathlib.Core.Path.{_≡_, refl}
 use mathlib.Core.Bool.{Bool, true, false, _&&_}
 use mathlib.Core.List.{List}
@@ -13,7 +13,7 @@ use Rattle.line.specs.declared.Field.{Field}
 use Rattle.line.specs.declared.Field.the-variants.{Data, Status}
 use Rattle.line.specs.declared.EpromRead.{EpromRead}
 use Rattle.line.specs.declared.EpromRead.the-variants.{Memory as ReadMemory, Status as ReadStatus, Pages as ReadPages}
-use Rattle.eprom.specs.Eprom.{fieldStart, fieldLength, fieldRead, span, cut, bodyLength}
+use Rattle.eprom.specs.Eprom.{fieldStart, fieldLength, span, cut, bodyLength}
 use Rattle.eprom.specs.View.{fieldsFit, namesData}
 
 -- ---- the fields
@@ -51,20 +51,6 @@ unfolding span
 span-least ReadMemory = omega arith
 span-least ReadStatus = omega arith
 span-least ReadPages = omega arith
-
--- the next bytes of four at a multiple of four are of the field, and no span ends before them
-pub four-within : (read : EpromRead) (address m : ℕ) → address < fieldLength (fieldRead read) → address % 4 + m < 4
-    → address + m < fieldLength (fieldRead read)
-unfolding fieldRead fieldLength
-four-within ReadMemory address m h l = omega arith
-four-within ReadStatus address m h l = omega arith
-four-within ReadPages address m h l = omega arith
-
-pub four-inside : (read : EpromRead) (address : ℕ) → address % 4 < 3 → (address + 1) % span read ≡ 0 → ⊥
-unfolding span
-four-inside ReadMemory address l e = omega arith
-four-inside ReadStatus address l e = omega arith
-four-inside ReadPages address l e = omega arith
 
 -- a cut address is one of its field's
 pub cut-below : (field : Field) (address : ℕ) → cut field address < fieldLength field

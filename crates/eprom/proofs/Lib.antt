@@ -1,4 +1,2 @@
 pub mod Laws
 pub mod Pulses
-pub mod SlotsAhead
-pub mod SlotsThrough

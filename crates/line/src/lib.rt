@@ -114,12 +114,6 @@ pub enum Stage {
     Memory(MemoryStage),
 }
 
-// Where several slots lead to, if that is known without going through them one by one.
-pub enum Through {
-    To(Stage),
-    EachSlot,
-}
-
 pub fn waiting() -> Stage
     ensures { λ r. ⌜ r ≡ waiting ⌝ }
 {

@@ -178,7 +178,7 @@ reached-sends {m} {i} {e} r h = given-sends (m .stage) (m .passes) i e (r .given
 abbrev pub Completes : Master → Master → Type 0
 Completes m n = (n .passes ≡ m .passes) ⊎ (n .passes ≡ m .passes + 1) × (n .previous ≡ m .code) × (registered (m .code) ≡ true)
 
-pub reads-passes : (m : Master) (at : ℕ) (first second : Bool) → afterReads m at first second .passes ≡ m .passes
+reads-passes : (m : Master) (at : ℕ) (first second : Bool) → afterReads m at first second .passes ≡ m .passes
 unfolding afterReads sendDirection withStage
 reads-passes m at false true = refl
 reads-passes m at true false = refl

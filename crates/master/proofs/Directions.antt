@@ -1,8 +1,8 @@
 -- A pass's code is its directions: the bit that is sent is the code's bit from then on, the others stay, and bytes stay bytes. Assumes nothing.
 use Prim.Native.Nat.{ℕ, zero, suc, _+_, _-_, _*_, _/_, _%_, _^_, _≤_, _<_}
 use mathlib.Core.Path.{_≡_, refl, sym, ap, _∙_}
-use mathlib.Core.Bool.{Bool, true, false, cond, Bool·beq, true≢false}
-use mathlib.Core.List.{List, [], _∷_}
+use mathlib.Core.Bool.{Bool, true, false, cond}
+use mathlib.Core.List.{List}
 use native.Mathlib.Nat.{div-one, div-div-eq-div-mul, pow-succ', two-pow-succ}
 use native.Mathlib.Omega.{arith}
 use native.Mathlib.Decide.{ℕ-discrete}
@@ -124,29 +124,6 @@ level-fits b i false h low = choose (bitOf b i)
 put-is : (s : List ℕ) (i : ℕ) (level : Bool) → putBit s i level ≡ set s (byteOf i) (atLevel (getD s (byteOf i) 0) (bitPlace i) level)
 unfolding putBit withBit
 put-is s i level = rw (lt-leb 8 (bitPlace i) (omega arith))
-
--- one that is at the level changes nothing
-level-held : (b i : ℕ) (level : Bool) → bitOf b i ≡ level → atLevel b i level ≡ b
-unfolding atLevel
-level-held b i true h = rw h
-level-held b i false h = rw h
-
-set-held : (s : List ℕ) (i : ℕ) → set s i (getD s i 0) ≡ s
-set-held [] i = refl
-set-held (x ∷ s) zero = refl
-set-held (x ∷ s) (suc i) = ap (λ (t : List ℕ). x ∷ t) (set-held s i)
-
-same-level : (a b : Bool) → Bool·beq a b ≡ true → a ≡ b
-same-level true true h = refl
-same-level true false h = absurd (true≢false (sym h))
-same-level false true h = absurd (true≢false (sym h))
-same-level false false h = refl
-
-pub put-held : (s : List ℕ) (i : ℕ) (level : Bool) → Bool·beq (bitAt s i) level ≡ true → putBit s i level ≡ s
-unfolding bitAt
-put-held s i level h =
-    let held = level-held (getD s (byteOf i) 0) (bitPlace i) level (same-level (bitAt s i) level h) in
-    put-is s i level ∙ ap (λ (x : ℕ). set s (byteOf i) x) held ∙ set-held s (byteOf i)
 
 module _ (s : List ℕ) (i : ℕ) (level : Bool) where
   pub put-same : i < 8 * length s → bitAt (putBit s i level) i ≡ level

@@ -15,7 +15,7 @@ use Rattle.master.specs.Master.{mostPasses, codeBits, event, end, endNum
 
 -- ---- a master in a known stage
 
-pub both : (a b : Bool) → (a && b) ≡ true → (a ≡ true) × (b ≡ true)
+both : (a b : Bool) → (a && b) ≡ true → (a ≡ true) × (b ≡ true)
 both true b e = (refl, e)
 both false b e = absurd (true≢false (sym e))
 

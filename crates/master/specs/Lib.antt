@@ -1,3 +1,2 @@
 pub mod Master
 pub mod Drive
-pub mod Bit

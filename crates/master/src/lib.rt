@@ -4,11 +4,9 @@
 // which event was sent last, and `at` which bit of the command or of the code it belongs to. The level that a step is given is the level
 // of that event.
 ghost use mathlib.Core.Path.{_≡_};
-ghost use Prim.Native.Nat.{_+_, _-_, _*_, _<_};
+ghost use Prim.Native.Nat.{_*_, _<_};
 ghost use lib.Seq.{sets};
-ghost use Rattle.bits.specs.Bit.{putBit};
-ghost use Rattle.master.specs.Master.{codeBits, codeBytes, mostPasses, fresh, withStage, slot, said, answerOf, says, inRange, afterReset, afterCommand, atDiscrepancy, sendDirection, afterReads, completed, afterPass, passEnd, afterDirection, afterLevel, nextOf, stepOf};
-ghost use Rattle.master.specs.Bit.{readsBit, directionStep, bitSteps, readingOf, withDirections, followed};
+ghost use Rattle.master.specs.Master.{codeBytes, mostPasses, fresh, withStage, slot, said, answerOf, says, inRange, afterReset, afterCommand, atDiscrepancy, sendDirection, afterReads, completed, afterPass, passEnd, afterDirection, afterLevel, nextOf, stepOf};
 ghost use Rattle.master.specs.Drive.{started, eventsFrom, codeCompleted, codesFrom, feedTraceRoom, feedCodeRoom, refused, fed, driveResult, outcomeNumber, driveNumber, traceAfter, codesAfter};
 
 // Why a master ended.
@@ -51,46 +49,61 @@ pub enum Discrepancy {
     At(u8),
 }
 
-// The state of a search. A step that completes a code hands it up: `passes` is one more than before, and `previous` is that code.
+// The state of a search. A step that completes a code hands it up: `passes` is one more than before, and `previous` is that code. The
+// fields are private, so that no other crate can build a master: there are the fresh one and those that a step hands back.
 pub struct Master {
-    pub stage: Stage,
+    stage: Stage,
     // The codes completed.
-    pub passes: u8,
+    passes: u8,
     // This pass: its directions so far, and its last open discrepancy.
-    pub code: [u8; 8],
-    pub opened: Discrepancy,
+    code: [u8; 8],
+    opened: Discrepancy,
     // The same of the pass before.
-    pub previous: [u8; 8],
-    pub last: Discrepancy,
+    previous: [u8; 8],
+    last: Discrepancy,
 }
 
 // The events that a master sends besides the slots of its bits.
 pub const RESET: u8 = 2;
 
-pub const READ_SLOT: u8 = 1;
+const READ_SLOT: u8 = 1;
 
 // The search command, and its bits.
-pub const SEARCH_ROM: u8 = 0xF0;
+const SEARCH_ROM: u8 = 0xF0;
 
-pub const COMMAND_BITS: u8 = 8;
+const COMMAND_BITS: u8 = 8;
 
 // The bits and bytes of a code.
-pub const CODE_BITS: u8 = 64;
+const CODE_BITS: u8 = 64;
 
 pub const CODE_BYTES: usize = 8;
 
 // The passes that a search may take.
-pub const MOST_PASSES: u8 = 64;
+const MOST_PASSES: u8 = 64;
 
 // The events of a pass, and of a whole search.
 pub const PASS_EVENTS: usize = 201;
 
 const MOST_EVENTS: usize = 64 * PASS_EVENTS;
 
-// A step's answer, and the master for the next step.
+// A step's answer, and the master for the next step. Only a step makes one.
 pub struct Step {
-    pub answer: Answer,
-    pub next: Master,
+    answer: Answer,
+    next: Master,
+}
+
+impl Step {
+    pub fn answer(self) -> Answer
+        ensures { λ r. ⌜ r ≡ self .answer ⌝ }
+    {
+        self.answer
+    }
+
+    pub fn next(self) -> Master
+        ensures { λ r. ⌜ r ≡ self .next ⌝ }
+    {
+        self.next
+    }
 }
 
 // The slot that sends a bit.
@@ -130,33 +143,6 @@ fn at_discrepancy(last: Discrepancy, previous: [u8; 8], at: u8) -> bool
     }
 }
 
-// A code with the direction of a bit. One that is there is not stored again: a copy of the code would wait for the store.
-fn with_direction(code: [u8; 8], at: u8, bit: bool) -> [u8; 8]
-    ensures { λ r. ⌜ r ≡ putBit code at bit ⌝ }
-{
-    if bits::bit_at(&code, at as usize) == bit {
-        return code;
-    }
-    let mut changed = code;
-    bits::put_bit(&mut changed, at as usize, bit);
-    changed
-}
-
-// A code with the directions of so many bits: each is the level of the bit's first read slot.
-fn with_directions(code: [u8; 8], levels: [u8; 8], at: u8, count: u8) -> [u8; 8]
-    requires { ⌜ at + count < 256 ⌝ }
-    ensures { λ r. ⌜ r ≡ withDirections code levels at count ⌝ }
-{
-    let mut held = code;
-    let mut j: u8 = 0;
-    while j < count {
-        let b = (at + j) as usize;
-        bits::put_bit(&mut held, b, bits::bit_at(&levels, b));
-        j = j + 1;
-    }
-    held
-}
-
 // Whether the search goes on after so many passes.
 fn after_pass(opened: Discrepancy, passes: u8) -> Stage
     ensures { λ r. ⌜ r ≡ afterPass opened passes ⌝ }
@@ -174,6 +160,13 @@ fn after_pass(opened: Discrepancy, passes: u8) -> Stage
 }
 
 impl Master {
+    // How many codes it has completed.
+    pub fn passes(self) -> u8
+        ensures { λ r. ⌜ r ≡ self .passes ⌝ }
+    {
+        self.passes
+    }
+
     // A master that has sent nothing.
     pub fn fresh() -> Master
         ensures { λ r. ⌜ r ≡ fresh ⌝ }
@@ -253,8 +246,8 @@ impl Master {
     fn send_direction(self, at: u8, bit: bool, opened: Discrepancy) -> Master
         ensures { λ r. ⌜ r ≡ sendDirection self at bit opened ⌝ }
     {
-        let held = self.code;
-        let code = with_direction(held, at, bit);
+        let mut code = self.code;
+        bits::put_bit(&mut code, at as usize, bit);
         let previous = self.previous;
         let last = self.last;
         Master {
@@ -361,123 +354,6 @@ impl Master {
         let stage = next.stage;
         let answer = answer_of(stage);
         Step { answer, next }
-    }
-
-    // The bit whose first read slot was sent last, in a pass that goes on; 64 where there is none.
-    pub fn reading(self) -> u8
-        ensures { λ r. ⌜ r ≡ readingOf self ⌝ }
-    {
-        let stage = self.stage;
-        let passes = self.passes;
-        match stage {
-            Stage::Fresh => CODE_BITS,
-            Stage::Reset => CODE_BITS,
-            Stage::Command { at: _ } => CODE_BITS,
-            Stage::FirstRead { at } => if passes < MOST_PASSES { at } else { CODE_BITS },
-            Stage::SecondRead { at: _, first: _ } => CODE_BITS,
-            Stage::Direction { at: _, bit: _ } => CODE_BITS,
-            Stage::Ended(_) => CODE_BITS,
-        }
-    }
-
-    // Whether there is one, and it is not the last of a code.
-    pub fn reads_bit(self) -> bool
-        ensures { λ r. ⌜ r ≡ readsBit self ⌝ }
-    {
-        self.reading() < CODE_BITS - 1
-    }
-
-    // Sends the direction of a bit that is not the last, and then the first read slot of the next.
-    fn send_bit(self, at: u8, bit: bool, opened: Discrepancy) -> Step
-        requires { ⌜ (at < codeBits - 1) × (self .passes < mostPasses) ⌝ }
-        ensures { λ r. ⌜ r ≡ directionStep (sendDirection self at bit opened) ⌝ }
-    {
-        let held = self.code;
-        let code = with_direction(held, at, bit);
-        let previous = self.previous;
-        let last = self.last;
-        let next = Master {
-            stage: Stage::FirstRead { at: at + 1 },
-            passes: self.passes,
-            code,
-            opened,
-            previous,
-            last,
-        };
-        Step {
-            answer: Answer::Event(slot(bit)),
-            next,
-        }
-    }
-
-    // The levels of both read slots of a bit that is not the last.
-    fn bit_read(self, at: u8, first: bool, second: bool) -> Step
-        requires { ⌜ (at < codeBits - 1) × (self .passes < mostPasses) ⌝ }
-        ensures { λ r. ⌜ r ≡ directionStep (afterReads self at first second) ⌝ }
-    {
-        let opened = self.opened;
-        if first {
-            if second {
-                let next = self.with_stage(Stage::Ended(End::NoDevice));
-                return Step {
-                    answer: Answer::End(End::NoDevice),
-                    next,
-                };
-            }
-            return self.send_bit(at, true, opened);
-        }
-        if second {
-            return self.send_bit(at, false, opened);
-        }
-        let last = self.last;
-        let previous = self.previous;
-        if at_discrepancy(last, previous, at) {
-            return self.send_bit(at, true, opened);
-        }
-        self.send_bit(at, false, Discrepancy::At(at))
-    }
-
-    // The steps of the two read slots of a bit and of its direction at once. The answer is the direction, or the end; the level of a
-    // direction is not read.
-    pub fn bit(self, first: bool, second: bool) -> Step
-        ensures { λ r. ⌜ r ≡ bitSteps self first second ⌝ }
-    {
-        let stage = self.stage;
-        let passes = self.passes;
-        if let Stage::FirstRead { at } = stage {
-            if at < CODE_BITS - 1 && passes < MOST_PASSES {
-                return self.bit_read(at, first, second);
-            }
-        }
-        let two = self.after(first).after(second);
-        let stage = two.stage;
-        let answer = answer_of(stage);
-        let next = two.after(false);
-        Step { answer, next }
-    }
-
-    // The steps of the bits from the one that is read to the last but one, where no two devices differ in them: the first read slot of bit b is at
-    // the level that is bit b of these bytes, and the second at its complement, so that each direction is that level.
-    pub fn follow(self, levels: [u8; 8]) -> Master
-        ensures { λ r. ⌜ r ≡ followed self levels ⌝ }
-    {
-        let at = self.reading();
-        if at < CODE_BITS - 1 {
-            let held = self.code;
-            let code = with_directions(held, levels, at, CODE_BITS - 1 - at);
-            let opened = self.opened;
-            let previous = self.previous;
-            let last = self.last;
-            return Master {
-                stage: Stage::FirstRead { at: CODE_BITS - 1 },
-                passes: self.passes,
-                code,
-                opened,
-                previous,
-                last,
-            };
-        }
-        self
     }
 }
 

@@ -2,26 +2,27 @@
 -- Assumes nothing.
 use Prim.Native.Nat.{ℕ, zero, suc, _+_, _-_, _*_, _<_, _≤_}
 use mathlib.Core.Path.{_≡_, refl, sym, ap, subst, _∙_}
-use mathlib.Core.Bool.{Bool, true, false, not, true≢false}
+use mathlib.Core.Bool.{Bool, true, false, not, cond, true≢false}
 use mathlib.Core.List.{List, [], _∷_, _++_, map}
 use native.Mathlib.Omega.{arith}
 use lib.ListN.{length, take, drop, set, replicate, length-append, length-set, length-drop, take-append-drop}
 use lib.Seq.{sets, sets-eq, length-sets, take-at, drop-at, drop-append-add, drop-drop}
-use lib.Dec.{eqb}
+use lib.Dec.{eqb, ltb, leb}
 use borrow.Author.Tests.{lt-ltb, le-leb}
-use Rattle.bits.specs.Bit.{levelByte}
 use Rattle.kind.specs.Kind.{bodySize}
 use Rattle.image.specs.Image.{countOf, kindAt, offsetAt, bodyAt}
 use Rattle.image.proofs.Accepted.{Known, accepted-known, inside}
 use Rattle.device.specs.declared.LineState.{LineState}
 use Rattle.device.specs.Device.{waitingState}
-use Rattle.bus.specs.Bus.{Device, deviceWith, eventOf, nextState, nextDevice, runTrace}
+use Rattle.bits.specs.Bit.{levelByte}
+use Rattle.bus.specs.Bus.{Device, deviceWith, eventOf, nextState, runTrace}
 use Rattle.bus.specs.Bus as Bus
 use Rattle.bus.specs.Run.{devicesFrom, statesOf}
-use Rattle.bus.specs.Loops.{placeIn, deviceAt, deviceIn, devicesIn}
+use Rattle.bus.specs.Loops.{placeIn, deviceAt, deviceIn, devicesIn, levelOn, statesAfter}
 use Rattle.bus.proofs.Shown.{devices-states}
-use Rattle.bus.proofs.States.{all-length}
+use Rattle.bus.proofs.States.{states-length}
 use Rattle.master.specs.declared.Answer.{Answer}
+use Rattle.master.specs.declared.Master.{Master}
 use Rattle.master.specs.declared.Step.{Step}
 use Rattle.master.specs.Master as M
 use Rattle.master.specs.Master.{codeBytes, event, end, endNumber, said, says, fresh, nextOf, stepOf}
@@ -32,7 +33,7 @@ use Rattle.discovery.specs.Searched.{Searched, eventsFor}
 use Rattle.discovery.proofs.Driven.{driven-stops, driven-devices}
 use Rattle.discovery.proofs.Demand.{searched}
 use Rattle.discovery.proofs.Going as G
-use Rattle.discovery.proofs.Going.{Going, going-start, going-end, going-room, going-on, going-devices, linesAfter}
+use Rattle.discovery.proofs.Going.{Going, going-start, going-end, going-room, going-on, linesAfter}
 use Rattle.search.specs.Exchange.{hasEvent, eventIn, Ready}
 
 -- ---- the state
@@ -47,29 +48,18 @@ abbrev pub state : Step → List LineState → List ℕ → List ℕ → State
 state step lines trace codes = record { step = step; lines = lines; trace = trace; codes = codes }
 
 module _ (image : List ℕ) where
-  -- the level of an event on the devices that line states give, and their line states after it; those past the entries stay as they were
-  unfoldable pub levelOn : List LineState → ℕ → Bool
-  levelOn lines byte = Bus.levelOf (eventOf byte) (devicesIn image 0 (take (countOf image) lines))
-
-  unfoldable pub statesAfter : List LineState → ℕ → Bool → List LineState
-  statesAfter lines byte level = map (nextState (eventOf byte) level) (devicesIn image 0 (take (countOf image) lines)) ++ drop (countOf image) lines
-
-  states-length : (lines : List LineState) (byte : ℕ) (level : Bool) → length (statesAfter lines byte level) ≡ length lines
-  unfolding statesAfter
-  states-length lines byte level = all-length image (nextState (eventOf byte) level) lines
-
   -- the event of an exchange, and its level
   abbrev pub sentIn : State → ℕ
   sentIn s = eventIn (s .step .answer)
 
   abbrev pub levelIn : State → Bool
-  levelIn s = levelOn (s .lines) (sentIn s)
+  levelIn s = levelOn image (s .lines) (sentIn s)
 
   -- exchange k, at a level
   abbrev pub exchangeWith : ℕ → State → Bool → State
   exchangeWith k s level =
       state (stepOf (s .step .next) (levelByte level))
-      (statesAfter (s .lines) (sentIn s) level)
+      (statesAfter image (s .lines) (sentIn s) level)
       (set (s .trace) k (sentIn s))
       (sets (s .codes) (codeBytes * s .step .next .passes) (codeCompleted (s .step .next .passes) (nextOf (s .step .next) (levelByte level))))
 
@@ -80,7 +70,7 @@ module _ (image : List ℕ) where
   pub lines-length : (k : ℕ) (s : State) → length (exchanges k s .lines) ≡ length (s .lines)
   unfolding exchanges
   lines-length zero s = refl
-  lines-length (suc k) s = states-length (exchanges k s .lines) (sentIn (exchanges k s)) (levelIn (exchanges k s)) ∙ lines-length k s
+  lines-length (suc k) s = states-length image (exchanges k s .lines) (sentIn (exchanges k s)) (levelIn (exchanges k s)) ∙ lines-length k s
 
   pub trace-length : (k : ℕ) (s : State) → length (exchanges k s .trace) ≡ length (s .trace)
   unfolding exchanges
@@ -100,7 +90,7 @@ module _ (image : List ℕ) where
   place-cut : (o size : ℕ) → o + size - o ≡ size
   place-cut o size = omega arith
 
-  pub device-same : (known : Known image) (i : ℕ) (s : LineState) → i < countOf image → deviceIn image i s ≡ deviceWith (kindAt image i) (bodyAt image i) s
+  device-same : (known : Known image) (i : ℕ) (s : LineState) → i < countOf image → deviceIn image i s ≡ deviceWith (kindAt image i) (bodyAt image i) s
   unfolding deviceIn deviceAt placeIn
   device-same known i s h =
       let o = offsetAt image i in
@@ -139,10 +129,6 @@ unfolding hasEvent said
 end-said (Answer.Event e) h = absurd (true≢false h)
 end-said (Answer.End x) h = (endNumber x, refl)
 
-few-for : (n : ℕ) → n ≤ 64 → eventsFor n < 65536
-few-for zero h = omega arith
-few-for (suc n) h = omega arith
-
 -- ---- the loop
 module _ (image codes₀ trace₀ : List ℕ) (lines₀ : List LineState) (ready : Ready image codes₀ trace₀ lines₀) where
   abbrev n : ℕ
@@ -154,13 +140,13 @@ module _ (image codes₀ trace₀ : List ℕ) (lines₀ : List LineState) (ready
   abbrev pub N : ℕ
   N = length (S .trace)
 
-  pub demand : Searched image S
+  demand : Searched image S
   demand = searched image (ready .bytes) (ready .accepted)
 
   abbrev pub start : State
   start = state (stepOf fresh 0) lines₀ trace₀ codes₀
 
-  pub record Doing (k : ℕ) (s : State) : Type 0 where
+  record Doing (k : ℕ) (s : State) : Type 0 where
     pub at : List LineState
     pub sent : List ℕ
     pub found : List ℕ
@@ -210,7 +196,7 @@ module _ (image codes₀ trace₀ : List ℕ) (lines₀ : List LineState) (ready
     must true h small = refl
     must false h small = let e = sym (d .count) ∙ ap length (at-end h .0) in absurd (omega arith)
 
-    pub cannot : (b : Bool) → hasEvent (s .step .answer) ≡ b → N ≤ k → b ≡ false
+    cannot : (b : Bool) → hasEvent (s .step .answer) ≡ b → N ≤ k → b ≡ false
     cannot true h big = let r = going-room image demand (sentIn image s) (d .going) (sends h) in let e = d .count in absurd (omega arith)
     cannot false h big = refl
 
@@ -260,25 +246,7 @@ module _ (image codes₀ trace₀ : List ℕ) (lines₀ : List LineState) (ready
           lined = lines-same e;
         })
 
-    -- the devices after it
-    pub devices-next : hasEvent (s .step .answer) ≡ true
-        → devicesIn image 0 (take n (statesAfter image (s .lines) (sentIn image s) (levelIn image s)))
-        ≡ map (nextDevice (eventOf (sentIn image s)) (levelIn image s)) (devicesIn image 0 (take n (s .lines)))
-    devices-next h =
-        let e = sentIn image s in
-        let g = going-on image demand e (d .going) (sends h) in
-        let level = G.levelIn image (d .at) e in
-        let next = linesAfter image (d .at) e in
-        let is : levelIn image s ≡ level = level-same e in
-        ap (λ (b : Bool). devicesIn image 0 (take n (statesAfter image (s .lines) e b))) is
-        ∙ ap (λ (l : List LineState). devicesIn image 0 (take n l)) (lines-same e)
-        ∙ ap (devicesIn image 0) (take-at next (drop n lines₀) n (g .each))
-        ∙ devices-same image (accepted-known image (ready .accepted)) 0 next (let c = g .each in omega arith)
-        ∙ sym (going-devices image demand e (d .going) (sends h))
-        ∙ ap (map (nextDevice (eventOf e) level)) (sym devices)
-        ∙ ap (λ (b : Bool). map (nextDevice (eventOf e) b) (devicesIn image 0 (take n (s .lines)))) (sym is)
-
-  pub doing : (k : ℕ) → k ≤ N → Doing k (exchanges image k start)
+  doing : (k : ℕ) → k ≤ N → Doing k (exchanges image k start)
   unfolding exchanges
   doing zero h = doing-start
   doing (suc k) h = let d = doing k (omega arith) in doing-next d (must d (hasEvent (exchanges image k start .step .answer)) refl h)
@@ -297,9 +265,6 @@ module _ (image codes₀ trace₀ : List ℕ) (lines₀ : List LineState) (ready
 
   pub lines-done : exchanges image N start .lines ≡ statesOf (S .devices) ++ drop n lines₀
   lines-done = let d = doing N (omega arith) in d .lined ∙ ap (λ (l : List LineState). l ++ drop n lines₀) (at-end d stops .2)
-
-  pub events-few : N < 65536
-  events-few = let e = demand .events in let f = few-for n (accepted-known image (ready .accepted) .few) in omega arith
 
   pub fits : N ≤ length trace₀
   fits = let r = ready .trace-room in let y = demand .events in omega arith

@@ -1,9 +1,8 @@
--- What the walk cites of a master's step, and of its side of a stretch, as a local: its type, its machine value, and the laws of both.
+-- What the walk cites of a master's step as a local: its type, its machine value, and the laws of both.
 --     Q, machP, tellsP     the type of a step, its machine value, and that the relation tells it
 --     spelledP             the relation has the machine value written out
 --     typedP               a machine value that the relation has of a step has its MIR type
---     U, machT, tellsT, spelledT, typedT     the same of the master's side of a stretch
--- `typedP` and `typedT` assume `Given`. The rest assumes nothing.
+-- `typedP` assumes `Given`. The rest assumes nothing.
 use mathlib.Core.Path.{_≡_, subst}
 use mathlib.Core.List.{[], _∷_, List}
 use lib.Dec.{T as Holds}
@@ -18,9 +17,6 @@ use denote.Struct.Laws as LL
 use Rattle.master.specs.declared.Step.{Step}
 use Rattle.master.proofs.Step as P
 use Rattle.master.proofs.Step.Laws as P′
-use Rattle.search.specs.declared.Told.{Told}
-use Rattle.search.proofs.Told as T
-use Rattle.search.proofs.Told.Laws as T′
 
 abbrev pub Q : RattleType
 Q = P.the-row
@@ -34,21 +30,6 @@ tellsP = LL.tells P.the-type P′.the-laws
 pub spelledP : (l : Step) (w : Val) → Is Q l (w ∷ []) → Is Q l (machP l ∷ [])
 spelledP l w is = subst (Is Q l) (tellsP l (w ∷ []) is) is
 
-abbrev pub U : RattleType
-U = T.the-row
-
-abbrev pub machT : Told → Val
-machT l = LL.tuple-val T.the-type T′.the-laws (T.the-type .to l)
-
-pub tellsT : Tells U (Is U) (LL.vals T.the-type T′.the-laws)
-tellsT = LL.tells T.the-type T′.the-laws
-
-pub spelledT : (l : Told) (w : Val) → Is U l (w ∷ []) → Is U l (machT l ∷ [])
-spelledT l w is = subst (Is U l) (tellsT l (w ∷ []) is) is
-
 module _ {M : Type 1} (𝓤 : URA M) (H : Heap 𝓤) (A : Atoms 𝓤) (W : Given 𝓤 H A) where
   pub typedP : (l : Step) (w : Val) → Is Q l (w ∷ []) → Holds (hasTy P′.mir w) × WT w
   typedP l w is = LL.lawful P.the-type P′.the-laws 𝓤 H A W .typed l (w ∷ []) is .0
-
-  pub typedT : (l : Told) (w : Val) → Is U l (w ∷ []) → Holds (hasTy T′.mir w) × WT w
-  typedT l w is = LL.lawful T.the-type T′.the-laws 𝓤 H A W .typed l (w ∷ []) is .0

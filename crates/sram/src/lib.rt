@@ -4,11 +4,8 @@
 use line::MemoryStage;
 use line::SramStage;
 use line::Stage;
-use line::Through;
 ghost use mathlib.Core.Path.{_≡_};
-ghost use Rattle.bits.specs.Slots.{onesWord};
 ghost use Rattle.sram.specs.Body.{target, targetOffset, loadTarget, beginByte, writeBit, endData, copyLength, copyToMemory, acceptCopy};
-ghost use Rattle.sram.specs.Through.{memoryLeft, sramAhead, throughWriteAddress, throughReadRegisters, throughReadScratchpad, throughPattern, throughReadAddress, throughReadMemory, sramThrough};
 ghost use Rattle.sram.specs.Sram.{inSram, sramRange, sramCommand, afterWriteAddress, addressWrite, afterWriteData, afterReadRegisters, afterReadScratchpad, patternSame, afterPattern, patternWrite, readFrom, afterReadAddress, afterReadMemory, sramSends, sramStep, sramWrite, sramReset};
 
 // The flags of E/S, by their bit of the body.
@@ -67,56 +64,6 @@ pub fn sends(s: SramStage, body: &[u8]) -> bool
         SramStage::Copied => false,
         SramStage::ReadAddress { bits: _, value: _ } => true,
         SramStage::ReadMemory { at } => bits::bit_at(body, 8 * kind::MEMORY + at as usize),
-    }
-}
-
-// ---- what is sent in the next slots whatever their levels are
-
-// Slots in which nothing is pulled low.
-fn ones(count: u8) -> u64
-    ensures { λ w. ⌜ w ≡ onesWord count ⌝ }
-{
-    bits::slots_word(0xFFFFFFFF, count)
-}
-
-// How many bits are left of the four bytes under way, or of the memory if it ends before them.
-fn memory_left(at: u32, size: u16) -> u8
-    ensures { λ r. ⌜ r ≡ memoryLeft at size ⌝ }
-{
-    let unit = 32 - at % 32;
-    let end = 8 * size as u32;
-    if end <= at {
-        return 0;
-    }
-    if unit < end - at {
-        unit as u8
-    } else {
-        (end - at) as u8
-    }
-}
-
-// What is sent in the next slots, to the end of the unit under way.
-pub fn ahead(s: SramStage, size: u16, body: &[u8]) -> u64
-    ensures { λ w. ⌜ w ≡ sramAhead s size (now (body .entry)) ⌝ }
-{
-    match s {
-        SramStage::WriteAddress { bits, value: _ } => ones(bits::left(bits, 16)),
-        SramStage::WriteData { at: _ } => ones(32),
-        SramStage::ReadRegisters { at } => {
-            let word = bits::word_at(body, 8 * kind::TA1 + at as usize);
-            bits::slots_word(word, bits::left(at, 24))
-        }
-        SramStage::ReadScratchpad { at } => {
-            let word = bits::word_at(body, 8 * kind::SCRATCHPAD + at as usize);
-            bits::slots_word(word, 32 - (at % 32) as u8)
-        }
-        SramStage::CopyPattern { at, same: _ } => ones(bits::left(at, 24)),
-        SramStage::Copied => bits::slots_word(0, 32),
-        SramStage::ReadAddress { bits, value: _ } => ones(bits::left(bits, 16)),
-        SramStage::ReadMemory { at } => {
-            let word = bits::word_at(body, 8 * kind::MEMORY + at as usize);
-            bits::slots_word(word, memory_left(at, size))
-        }
     }
 }
 
@@ -258,99 +205,6 @@ pub fn step(s: SramStage, size: u16, body: &[u8], level: bool) -> Stage
         SramStage::Copied => in_sram(SramStage::Copied),
         SramStage::ReadAddress { bits, value } => after_read_address(bits, value, size, level),
         SramStage::ReadMemory { at } => after_read_memory(at, size),
-    }
-}
-
-// ---- several slots at once, within the unit under way
-
-fn through_write_address(bits: u8, value: u16, levels: u32, n: u8) -> Through
-    ensures { λ r. ⌜ r ≡ throughWriteAddress bits value levels n ⌝ }
-{
-    if bits::within(bits, n, 16) {
-        Through::To(in_sram(SramStage::WriteAddress {
-            bits: bits + n,
-            value: bits::shifts_in_wide(value, levels, n),
-        }))
-    } else {
-        Through::EachSlot
-    }
-}
-
-fn through_read_registers(at: u8, n: u8) -> Through
-    ensures { λ r. ⌜ r ≡ throughReadRegisters at n ⌝ }
-{
-    if bits::within(at, n, 24) {
-        Through::To(in_sram(SramStage::ReadRegisters { at: at + n }))
-    } else {
-        Through::EachSlot
-    }
-}
-
-fn through_read_scratchpad(at: u16, n: u8) -> Through
-    ensures { λ r. ⌜ r ≡ throughReadScratchpad at n ⌝ }
-{
-    if bits::within((at % 32) as u8, n, 32) {
-        Through::To(in_sram(SramStage::ReadScratchpad { at: at + n as u16 }))
-    } else {
-        Through::EachSlot
-    }
-}
-
-fn through_pattern(at: u8, same: bool, body: &[u8], levels: u32, n: u8) -> Through
-    ensures { λ r. ⌜ r ≡ throughPattern at same (now (body .entry)) levels n ⌝ }
-{
-    if bits::within(at, n, 24) {
-        let equal = bits::same_bits(body, 8 * kind::TA1 as u16 + at as u16, levels, n);
-        Through::To(in_sram(SramStage::CopyPattern {
-            at: at + n,
-            same: same & equal,
-        }))
-    } else {
-        Through::EachSlot
-    }
-}
-
-fn through_read_address(bits: u8, value: u16, levels: u32, n: u8) -> Through
-    ensures { λ r. ⌜ r ≡ throughReadAddress bits value levels n ⌝ }
-{
-    if bits::within(bits, n, 16) {
-        Through::To(in_sram(SramStage::ReadAddress {
-            bits: bits + n,
-            value: bits::shifts_in_wide(value, levels, n),
-        }))
-    } else {
-        Through::EachSlot
-    }
-}
-
-// Also within the memory, which may end before the four bytes under way do.
-fn through_read_memory(at: u32, size: u16, n: u8) -> Through
-    ensures { λ r. ⌜ r ≡ throughReadMemory at size n ⌝ }
-{
-    if !bits::within((at % 32) as u8, n, 32) {
-        return Through::EachSlot;
-    }
-    let next = at + n as u32;
-    if next < 8 * size as u32 {
-        Through::To(in_sram(SramStage::ReadMemory { at: next }))
-    } else {
-        Through::EachSlot
-    }
-}
-
-// The stage after n slots at levels, the lowest bit first. Data bits change the body, each in its own slot.
-pub fn through(s: SramStage, size: u16, body: &[u8], levels: u32, n: u8) -> Through
-    ensures { λ r. ⌜ r ≡ sramThrough s size (now (body .entry)) levels n ⌝ }
-{
-    match s {
-        SramStage::WriteAddress { bits, value } => through_write_address(bits, value, levels, n),
-        SramStage::WriteData { at: _ } => Through::EachSlot,
-        SramStage::ReadRegisters { at } => through_read_registers(at, n),
-        SramStage::ReadScratchpad { at } => through_read_scratchpad(at, n),
-        SramStage::CopyPattern { at, same } => through_pattern(at, same, body, levels, n),
-        SramStage::Copied => Through::To(in_sram(SramStage::Copied)),
-        SramStage::ReadAddress { bits, value } => through_read_address(bits, value, levels, n),
-        SramStage::ReadMemory { at } => through_read_memory(at, size, n),
     }
 }
 

@@ -53,7 +53,7 @@ use Rattle.bus.specs.Refusal.{runRefusal}
 use Rattle.bus.specs.Run.{runOutcome, runOf}
 use Rattle.bus.specs.Loops.{servedOf, filled, RunState, runState}
 use Rattle.bus.proofs.Again.{LentAgain, SharedAgain, lends-kept, back-kept, shares-kept, shared-back}
-use Rattle.bus.proofs.Laws.{admitted, served-lines, filled-length, events-sized}
+use Rattle.bus.proofs.Laws.{admitted, served-lines, filled-length, events-image-length, events-answers-length, events-lines-length}
 use Rattle.bus.proofs.Lines.{R, mach, tellsR, typed, spelled, unit-typed}
 use Rattle.bus.proofs.Parts.{then-of, rest-of}
 use Rattle.bus.proofs.Shown.{ends, run-shown, run-refused, run-leaves}
@@ -417,7 +417,7 @@ module _ {M : Type 1} (𝓤 : URA M) (H : Heap 𝓤) (A : Atoms 𝓤) (W : Given
         exec ! C Λ En mir.t-8 (atRet En Post) $
         forget ! 47 refl $ forget ! 27 refl $ forget ! 21 refl $ forget ! 19 refl $ forget ! 17 refl $ forget ! 15 refl $ forget ! 13 refl $ forget ! 11 refl $
         keep ! (6 ∷ 7 ∷ 10 ∷ 5 ∷ 3 ∷ 4 ∷ 0 ∷ 1 ∷ 11 ∷ 12 ∷ 13 ∷ 14 ∷ 15 ∷ 16 ∷ 17 ∷ 18 ∷ 19 ∷ 20 ∷ 21 ∷ 22 ∷ 23 ∷ 24 ∷ 25 ∷ 26 ∷ 27 ∷ 28 ∷ 29 ∷ 30 ∷ 31 ∷ 32 ∷ 33 ∷ 34 ∷ 35 ∷ 36 ∷ 37 ∷ 38 ∷ 39 ∷ 40 ∷ 41 ∷ 42 ∷ 43 ∷ 44 ∷ 45 ∷ 46 ∷ 47 ∷ 48 ∷ 49 ∷ 50 ∷ 51 ∷ 52 ∷ 53 ∷ 54 ∷ 55 ∷ 56 ∷ 57 ∷ 58 ∷ 59 ∷ 60 ∷ []) $
-        leaves (done′ .image) (done′ .answers) (done′ .lines) e-fits (ran zero′) (events-sized tr c n start′ .image) (events-sized tr c n start′ .answers) (events-sized tr c n start′ .lines ∙ same)))))))))))))))
+        leaves (done′ .image) (done′ .answers) (done′ .lines) e-fits (ran zero′) (events-image-length tr c n start′) (events-answers-length tr c n start′) (events-lines-length tr c n start′ ∙ same)))))))))))))))
 
     -- `fill`
     filling : e < 2 ^ 32 → e ≡ 0 → Is R waitingState (mach waitingState ∷ []) → Sq W (Had im ans ys Ready) (runs C Λ En (rest-of (rest-of (rest-of (rest-of (rest-of (then-of mir.s-7)))))) Then)

@@ -1,11 +1,10 @@
 -- `bus::turn` meets its contract. The part that is lent lies in the image (`inside-of`), and comes back in its place (`post-is`).
-use mathlib.Core.Path.{sym, ap, _∙_}
+use mathlib.Core.Path.{sym, _∙_}
 use native.Mathlib.Omega.{arith}
 use borrow.Author.Needs.{needs}
 use borrow.Rule.Slice.PartMut.{post-is}
-use Rattle.bus.specs.Bus.{Device}
-use Rattle.bus.specs.Loops.{deviceAt, deviceIn, turnedImage, turnedState, withBody}
-use Rattle.bus.proofs.Idle.{idle-turned, idle-image}
+use Rattle.bus.specs.Loops.{deviceAt, deviceIn, turnImage, turnState, withBody}
+use Rattle.bus.proofs.Idle.{idle-state, idle-image}
 use Rattle.bus.proofs.Laws.{inside-of}
 use Rattle.bus.proofs.turn.Statement.{statement}
 use Rattle.bus.proofs.turn.Tie as tie
@@ -17,7 +16,7 @@ returns : tie.Need-returns
 returns c =
     let a = c .before .before .before .args in
     let idle = sym (c .before .is-idle .ensures) ∙ c .if1 .taken in
-    (idle-turned (a .byte) (a .state) idle (a .image .now) (a .i) (a .stretch), idle-image (a .byte) (a .state) idle (a .image .now) (a .i) (a .stretch))
+    (idle-state (a .byte) (a .state) idle (a .image .now) (a .i) (a .level), idle-image (a .byte) (a .state) idle (a .image .now) (a .i) (a .level))
 
 place-of-requires : tie.Need-place-of-requires
 place-of-requires c κs = search needs
@@ -38,13 +37,13 @@ same-length : tie.Need-same-length
 same-length c = search needs
 
 returns-2 : tie.Need-returns-2
-unfolding turnedState turnedImage deviceIn deviceAt withBody
+unfolding turnState turnImage deviceIn deviceAt withBody
 returns-2 c =
     let s = c .before .before .before .before .before .before .before .before .before in
     let p = c .before .before .before .before .place-of in
     let n = c .before .before .device-next in
     let inside = inside-of _ _ _ (p .ensures) in
-    (rw (turnedState, ← p .ensures) (ap (λ (d : Device). d .state) (n .ensures)), rw (turnedImage, ← p .ensures, post-is (p .result .start) (p .result .end) (s .args .image .now) (inside .rising), ap (λ (d : Device). d .body) (n .ensures)))
+    (rw (← p .ensures) (n .ensures .0), rw (← p .ensures, post-is (p .result .start) (p .result .end) (s .args .image .now) (inside .rising), n .ensures .1))
 
 pub turn-spec : {M : Type 1} → statement M
 turn-spec =

@@ -34,8 +34,8 @@ use denote.RattleType.{owns}
 use denote.Shadow.{pureI}
 use denote.Laws.{Is, shows}
 use denote.Memory.{pointee}
-use denote.Plain.{uint-vals, uint-tells, uint-makes}
-use denote.Builtin.{u8, u64, usize}
+use denote.Plain.{uint-vals, uint-tells, uint-makes, bool-vals, bool-tells, bool-makes}
+use denote.Builtin.{u8, usize, bool}
 use denote.Ref.{RefT}
 use denote.Slice.{sliceTy, sliceVal, MutSlice, Room, heres, codedHoleys, at-slice, slice-vals, mut-slice-tells}
 use denote.Lend.{Held}
@@ -55,7 +55,7 @@ use Rattle.device.specs.declared.LineState.{LineState}
 use Rattle.device.specs.Device.{waitingState}
 use Rattle.device.proofs.LineState as T
 use Rattle.device.proofs.LineState.Laws as T′
-use Rattle.bus.specs.Loops.{turnedState, lineAt, BusState, busState, turns, turnAt}
+use Rattle.bus.specs.Loops.{turnState, lineAt, BusState, busState, turns, turnAt}
 use Rattle.bus.proofs.Again.{LentAgain, lends-kept, back-kept}
 use Rattle.bus.proofs.Laws.{turns-image-length, turns-lines-length}
 use Rattle.bus.proofs.Lines.{width, holds, fails, one-more, fits-at, fits-next, R, mach, valsR, tellsR, typed, spelled}
@@ -70,14 +70,14 @@ use Rattle.bus.proofs.turn_all.Code as code
 use Rattle.bus.proofs.turn_all.Code.Mir as mir
 
 abbrev stayed : Stays (turn-all.ended .signature .params) (turn-all.ended .kept)
-stayed = (stay-slice (0 ∷ []) tt (plain (λ _. u8)), (stay-slice (1 ∷ []) tt (plain (λ _. R)), (stay-none (λ _. usize) yes, (stay-none (λ _. u8) yes, (stay-none (λ _. u64) yes, tt)))))
+stayed = (stay-slice (0 ∷ []) tt (plain (λ _. u8)), (stay-slice (1 ∷ []) tt (plain (λ _. R)), (stay-none (λ _. usize) yes, (stay-none (λ _. u8) yes, (stay-none (λ _. bool) yes, tt)))))
 
 -- the contract that the proof cites
 abbrev Turn : {M : Type 1} (𝓤 : URA M) (H : Heap 𝓤) (A : Atoms 𝓤) (mem : Memory → SProp 𝓤) (run : Routine → Fun 𝓤) → Contract 𝓤
 Turn 𝓤 H A mem run = tripleOf 𝓤 H A turn.signature (turn.spec 𝓤 H A mem run)
 
 module _ {M : Type 1} (𝓤 : URA M) (H : Heap 𝓤) (A : Atoms 𝓤) (W : Given 𝓤 H A) (mem : Memory → SProp 𝓤) (run : Routine → Fun 𝓤) (κ κ′ : Lft) (q q′ : Share)
-    (b o : ℕ) (γ : GName) (im : List ℕ) (b′ o′ : ℕ) (γ′ : GName) (ys : List LineState) (n v t : ℕ) (n-fits : n < 2 ^ 64) (v-fits : v < 2 ^ 8) (t-fits : t < 2 ^ 64) (few : n ≤ length ys) where
+    (b o : ℕ) (γ : GName) (im : List ℕ) (b′ o′ : ℕ) (γ′ : GName) (ys : List LineState) (n v : ℕ) (t : Bool) (n-fits : n < 2 ^ 64) (v-fits : v < 2 ^ 8) (few : n ≤ length ys) where
   -- the state on entry, and after i turns
   abbrev entry : BusState
   entry = busState im ys
@@ -99,13 +99,13 @@ module _ {M : Type 1} (𝓤 : URA M) (H : Heap 𝓤) (A : Atoms 𝓤) (W : Given
   s′ = sliceVal (b′, o′) (length ys)
 
   abbrev Arg : Type 0
-  Arg = RefT (List ℕ) × (RefT (List LineState) × (ℕ × (ℕ × (ℕ × Unit {0}))))
+  Arg = RefT (List ℕ) × (RefT (List LineState) × (ℕ × (ℕ × (Bool × Unit {0}))))
 
   abbrev a : Arg
   a = (x γ im, (x′ ys, (n, (v, (t, tt)))))
 
   abbrev vals : List Val × (List Val × (List Val × (List Val × (List Val × Unit {0}))))
-  vals = (s ∷ [], (s′ ∷ [], (vint w64 n ∷ [], (vint w8 v ∷ [], (vint w64 t ∷ [], tt)))))
+  vals = (s ∷ [], (s′ ∷ [], (vint w64 n ∷ [], (vint w8 v ∷ [], (vbool t ∷ [], tt)))))
 
   abbrev Post : Val → SProp 𝓤
   Post = walkOf 𝓤 H A turn-all.ended stayed (turn-all.clauses 𝓤 H A mem run) .post (((κ, (κ′, tt)), (q, (q′, tt)), tt, a, vals), tt)
@@ -129,29 +129,29 @@ module _ {M : Type 1} (𝓤 : URA M) (H : Heap 𝓤) (A : Atoms 𝓤) (W : Given
       nothing ! $ move ! (3 ∷ 0 ∷ []) $ join ! $ move ! (4 ∷ 0 ∷ []) $ join ! $ frame ! $
       -- [obs; the borrow; the image]: the first two, with the fact on the machine value, are what the lines own
       fjoin ! $ pureI ! (at-slice R (x′ zs) (s′ ∷ [])) (tt, (tt, tt)) (ap (λ (m : ℕ). sliceVal (b′, o′) m ∷ []) (sym (turns-lines-length v t n entry)), subst (Room R) (sym (turns-lines-length v t n entry)) room) $ fjoin ! $
-      nothing ! $ owned ! u64 (Is u64) (uint-makes 𝓤 H A W w64) t (vint w64 t ∷ []) (refl, t-fits) $ fjoin ! $ owned ! u8 (Is u8) (uint-makes 𝓤 H A W w8) v (vint w8 v ∷ []) (refl, v-fits) $ fjoin ! $ owned ! usize (Is usize) (uint-makes 𝓤 H A W w64) n (vint w64 n ∷ []) (refl, n-fits) $ fjoin ! $ move ! (1 ∷ 0 ∷ []) $ fjoin ! $ move ! (1 ∷ 0 ∷ []) $ fjoin ! $
+      nothing ! $ owned ! bool (Is bool) (bool-makes 𝓤 H A W) t (vbool t ∷ []) refl $ fjoin ! $ owned ! u8 (Is u8) (uint-makes 𝓤 H A W w8) v (vint w8 v ∷ []) (refl, v-fits) $ fjoin ! $ owned ! usize (Is usize) (uint-makes 𝓤 H A W w64) n (vint w64 n ∷ []) (refl, n-fits) $ fjoin ! $ move ! (1 ∷ 0 ∷ []) $ fjoin ! $ move ! (1 ∷ 0 ∷ []) $ fjoin ! $
       frame ! $ feqI ! (List Val) (vunit ∷ []) (vunit ∷ []) refl $ done !
 
-  -- what `turn`'s triple binds outside in turn i: the image lent again for the lifetime ν, under the name δ; the index, the line state, the event and the stretch
+  -- what `turn`'s triple binds outside in turn i: the image lent again for the lifetime ν, under the name δ; the index, the line state, the event and its level
   abbrev l : ℕ → LineState
   l i = lineAt (st i .lines) i
 
-  abbrev to-args : ℕ → GName → RefT (List ℕ) × (ℕ × (LineState × (ℕ × (ℕ × Unit {0}))))
+  abbrev to-args : ℕ → GName → RefT (List ℕ) × (ℕ × (LineState × (ℕ × (Bool × Unit {0}))))
   to-args i δ = (x δ (st i .image), (i, (l i, (v, (t, tt)))))
 
   abbrev to-turn : ℕ → ℕ → GName → Turn 𝓤 H A mem run .Ghost
-  to-turn i ν δ = (((ν ∷ [], tt), (fullShare, tt), tt, to-args i δ, (s ∷ [], (vint w64 i ∷ [], (mach (l i) ∷ [], (vint w8 v ∷ [], (vint w64 t ∷ [], tt)))))), tt)
+  to-turn i ν δ = (((ν ∷ [], tt), (fullShare, tt), tt, to-args i δ, (s ∷ [], (vint w64 i ∷ [], (mach (l i) ∷ [], (vint w8 v ∷ [], (vbool t ∷ [], tt)))))), tt)
 
   goes-turn : (i ν : ℕ) (δ : GName) → Is R (l i) (mach (l i) ∷ []) → i < 2 ^ 64
       → ent 𝓤 (sep 𝓤 (A .lft (ν ∷ []) fullShare) (sem 𝓤 H A (MutSlice (named 0) (ν ∷ []) u8 .own (x δ (st i .image)) (s ∷ [])))) (Turn 𝓤 H A mem run .pre (to-turn i ν δ))
   goes-turn i ν δ is i-fits =
       qed W (‵ (flft (ν ∷ []) fullShare) ∷ ‵ (MutSlice (named 0) (ν ∷ []) u8 .own (x δ (st i .image)) (s ∷ [])) ∷ []) ∵ nothing ! $ move ! (1 ∷ 0 ∷ []) $ join ! $ move ! (1 ∷ []) $ nothing ! $
-      owned ! u64 (Is u64) (uint-makes 𝓤 H A W w64) t (vint w64 t ∷ []) (refl, t-fits) $ fjoin ! $ owned ! u8 (Is u8) (uint-makes 𝓤 H A W w8) v (vint w8 v ∷ []) (refl, v-fits) $ fjoin ! $
+      owned ! bool (Is bool) (bool-makes 𝓤 H A W) t (vbool t ∷ []) refl $ fjoin ! $ owned ! u8 (Is u8) (uint-makes 𝓤 H A W w8) v (vint w8 v ∷ []) (refl, v-fits) $ fjoin ! $
       owned ! R (Is R) (LL.makes T.the-type T′.the-plain 𝓤 H A) (l i) (mach (l i) ∷ []) is $ fjoin ! $ owned ! usize (Is usize) (uint-makes 𝓤 H A W w64) i (vint w64 i ∷ []) (refl, i-fits) $ fjoin ! $ move ! (1 ∷ 0 ∷ []) $ fjoin ! $ move ! (1 ∷ 0 ∷ []) $ join ! $ frame ! $ done !
 
   -- what `turn` returns in turn i
   abbrev r′ : ℕ → LineState
-  r′ i = turnedState (st i .image) i (l i) v t
+  r′ i = turnState (st i .image) i (l i) v t
 
   module _ (𝓣 : Tables 𝓤 H) (fm : FmC 𝓤 H (W .laws) (𝓣 .C)) (known : Triple 𝓤 (𝓣 .C #bus·turn) (Turn 𝓤 H A mem run)) (room-im : Room u8 (length im)) (room : Room R (length ys))
       (l₀ l₁ l₂ l₃ l₄ l₅ l₆ l₇ l₈ l₉ l₁₀ l₁₁ l₁₂ l₁₃ l₁₄ l₁₅ : ℕ) where
@@ -171,11 +171,11 @@ module _ {M : Type 1} (𝓤 : URA M) (H : Heap 𝓤) (A : Atoms 𝓤) (W : Given
     again = tyRef erased mut (tyInt w8)
 
     abbrev En : Env 𝓤 H
-    En = (tyUnit, l₀) ∷ (bytes, l₁) ∷ (slice, l₂) ∷ (tyInt w64, l₃) ∷ (tyInt w8, l₄) ∷ (tyInt w64, l₅) ∷ (tyInt w64, l₆) ∷ (T′.mir, l₇) ∷ (T′.mir, l₈) ∷ (tyBool, l₉) ∷ (tyInt w64, l₁₀) ∷ (tyPtr, l₁₁) ∷ (T′.mir, l₁₂) ∷ (again, l₁₃) ∷ (sliceTy again, l₁₄) ∷ (tyPtr, l₁₅) ∷ []
+    En = (tyUnit, l₀) ∷ (bytes, l₁) ∷ (slice, l₂) ∷ (tyInt w64, l₃) ∷ (tyInt w8, l₄) ∷ (tyBool, l₅) ∷ (tyInt w64, l₆) ∷ (T′.mir, l₇) ∷ (T′.mir, l₈) ∷ (tyBool, l₉) ∷ (tyInt w64, l₁₀) ∷ (tyPtr, l₁₁) ∷ (T′.mir, l₁₂) ∷ (again, l₁₃) ∷ (sliceTy again, l₁₄) ∷ (tyPtr, l₁₅) ∷ []
 
     -- what no turn touches: the parameters' locals, the result's, the open borrow, and that each local dies
     abbrev Frame : List (Item 𝓤)
-    Frame = ‵ (fat fullShare bytes l₁ 0 s) ∷ ‵ (fat fullShare slice l₂ 0 s′) ∷ ‵ (fat fullShare (tyInt w8) l₄ 0 (vint w8 v)) ∷ ‵ (fat fullShare (tyInt w64) l₅ 0 (vint w64 t)) ∷ ‵ (froom tyUnit l₀ 0) ∷ ‵ (fobor κ′ q′ (Held R (length ys) b′ o′ γ′)) ∷ ‵ (fobs γ′ (codedHoleys R .code (heres R ys))) ∷ ‵ (fauth γ′ (codedHoleys R .code (heres R ys))) ∷ ‵ (fat fullShare (tyInt w64) l₃ 0 (vint w64 n)) ∷ ‵ (fdies tyUnit l₀) ∷ ‵ (fdies bytes l₁) ∷ ‵ (fdies slice l₂) ∷ ‵ (fdies (tyInt w64) l₃) ∷ ‵ (fdies (tyInt w8) l₄) ∷ ‵ (fdies (tyInt w64) l₅) ∷ ‵ (fdies (tyInt w64) l₆) ∷ ‵ (fdies T′.mir l₇) ∷ ‵ (fdies T′.mir l₈) ∷ ‵ (fdies tyBool l₉) ∷ ‵ (fdies (tyInt w64) l₁₀) ∷ ‵ (fdies tyPtr l₁₁) ∷ ‵ (fdies T′.mir l₁₂) ∷ ‵ (fdies again l₁₃) ∷ ‵ (fdies (sliceTy again) l₁₄) ∷ ‵ (fdies tyPtr l₁₅) ∷ []
+    Frame = ‵ (fat fullShare bytes l₁ 0 s) ∷ ‵ (fat fullShare slice l₂ 0 s′) ∷ ‵ (fat fullShare (tyInt w8) l₄ 0 (vint w8 v)) ∷ ‵ (fat fullShare tyBool l₅ 0 (vbool t)) ∷ ‵ (froom tyUnit l₀ 0) ∷ ‵ (fobor κ′ q′ (Held R (length ys) b′ o′ γ′)) ∷ ‵ (fobs γ′ (codedHoleys R .code (heres R ys))) ∷ ‵ (fauth γ′ (codedHoleys R .code (heres R ys))) ∷ ‵ (fat fullShare (tyInt w64) l₃ 0 (vint w64 n)) ∷ ‵ (fdies tyUnit l₀) ∷ ‵ (fdies bytes l₁) ∷ ‵ (fdies slice l₂) ∷ ‵ (fdies (tyInt w64) l₃) ∷ ‵ (fdies (tyInt w8) l₄) ∷ ‵ (fdies tyBool l₅) ∷ ‵ (fdies (tyInt w64) l₆) ∷ ‵ (fdies T′.mir l₇) ∷ ‵ (fdies T′.mir l₈) ∷ ‵ (fdies tyBool l₉) ∷ ‵ (fdies (tyInt w64) l₁₀) ∷ ‵ (fdies tyPtr l₁₁) ∷ ‵ (fdies T′.mir l₁₂) ∷ ‵ (fdies again l₁₃) ∷ ‵ (fdies (sliceTy again) l₁₄) ∷ ‵ (fdies tyPtr l₁₅) ∷ []
 
     -- after i turns
     -- [the row; the image; its token; _6; _7; _8; _10; _9; _11; _12; _13; _14; _15; _1; _2; _4; _5; _0; the open borrow; obs; auth; _3; dies _0; dies _1; dies _2; dies _3; dies _4; dies _5; dies _6; dies _7; dies _8; dies _9; dies _10; dies _11; dies _12; dies _13; dies _14; dies _15]
@@ -310,7 +310,7 @@ module _ {M : Type 1} (𝓤 : URA M) (H : Heap 𝓤) (A : Atoms 𝓤) (W : Given
 
     -- what stands once the parameters are passed. It is a declaration of its own, which keeps antt's check of each below its limit of steps
     abbrev Start : List (Item 𝓤)
-    Start = ‵ (froom tyPtr l₁₅ 0) ∷ ‵ (fdies tyPtr l₁₅) ∷ ‵ (froom (sliceTy again) l₁₄ 0) ∷ ‵ (fdies (sliceTy again) l₁₄) ∷ ‵ (froom again l₁₃ 0) ∷ ‵ (fdies again l₁₃) ∷ ‵ (froom T′.mir l₁₂ 0) ∷ ‵ (fdies T′.mir l₁₂) ∷ ‵ (froom tyPtr l₁₁ 0) ∷ ‵ (fdies tyPtr l₁₁) ∷ ‵ (froom (tyInt w64) l₁₀ 0) ∷ ‵ (fdies (tyInt w64) l₁₀) ∷ ‵ (froom tyBool l₉ 0) ∷ ‵ (fdies tyBool l₉) ∷ ‵ (froom T′.mir l₈ 0) ∷ ‵ (fdies T′.mir l₈) ∷ ‵ (froom T′.mir l₇ 0) ∷ ‵ (fdies T′.mir l₇) ∷ ‵ (froom (tyInt w64) l₆ 0) ∷ ‵ (fdies (tyInt w64) l₆) ∷ ‵ (fat fullShare (tyInt w64) l₅ 0 (vint w64 t)) ∷ ‵ (fdies (tyInt w64) l₅) ∷ ‵ (fat fullShare (tyInt w8) l₄ 0 (vint w8 v)) ∷ ‵ (fdies (tyInt w8) l₄) ∷ ‵ (fat fullShare (tyInt w64) l₃ 0 (vint w64 n)) ∷ ‵ (fdies (tyInt w64) l₃) ∷ ‵ (fat fullShare slice l₂ 0 s′) ∷ ‵ (fdies slice l₂) ∷ ‵ (fat fullShare bytes l₁ 0 s) ∷ ‵ (fdies bytes l₁) ∷ ‵ (froom tyUnit l₀ 0) ∷ ‵ (fdies tyUnit l₀) ∷ (‵ (flft κ q) ⊛ ‵ (flft κ′ q′) ⊛ ‵ ftrue) ∷ ‵ (owns (MutSlice (named 0) κ u8 ∷ MutSlice (named 1) κ′ R ∷ usize ∷ u8 ∷ u64 ∷ []) a vals) ∷ []
+    Start = ‵ (froom tyPtr l₁₅ 0) ∷ ‵ (fdies tyPtr l₁₅) ∷ ‵ (froom (sliceTy again) l₁₄ 0) ∷ ‵ (fdies (sliceTy again) l₁₄) ∷ ‵ (froom again l₁₃ 0) ∷ ‵ (fdies again l₁₃) ∷ ‵ (froom T′.mir l₁₂ 0) ∷ ‵ (fdies T′.mir l₁₂) ∷ ‵ (froom tyPtr l₁₁ 0) ∷ ‵ (fdies tyPtr l₁₁) ∷ ‵ (froom (tyInt w64) l₁₀ 0) ∷ ‵ (fdies (tyInt w64) l₁₀) ∷ ‵ (froom tyBool l₉ 0) ∷ ‵ (fdies tyBool l₉) ∷ ‵ (froom T′.mir l₈ 0) ∷ ‵ (fdies T′.mir l₈) ∷ ‵ (froom T′.mir l₇ 0) ∷ ‵ (fdies T′.mir l₇) ∷ ‵ (froom (tyInt w64) l₆ 0) ∷ ‵ (fdies (tyInt w64) l₆) ∷ ‵ (fat fullShare tyBool l₅ 0 (vbool t)) ∷ ‵ (fdies tyBool l₅) ∷ ‵ (fat fullShare (tyInt w8) l₄ 0 (vint w8 v)) ∷ ‵ (fdies (tyInt w8) l₄) ∷ ‵ (fat fullShare (tyInt w64) l₃ 0 (vint w64 n)) ∷ ‵ (fdies (tyInt w64) l₃) ∷ ‵ (fat fullShare slice l₂ 0 s′) ∷ ‵ (fdies slice l₂) ∷ ‵ (fat fullShare bytes l₁ 0 s) ∷ ‵ (fdies bytes l₁) ∷ ‵ (froom tyUnit l₀ 0) ∷ ‵ (fdies tyUnit l₀) ∷ (‵ (flft κ q) ⊛ ‵ (flft κ′ q′) ⊛ ‵ ftrue) ∷ ‵ (owns (MutSlice (named 0) κ u8 ∷ MutSlice (named 1) κ′ R ∷ usize ∷ u8 ∷ bool ∷ []) a vals) ∷ []
 
     -- the MIR, up to the loop
     begins : Sq W Start (runs C Λ En mir.t-1 (atRet En Post))
@@ -336,23 +336,23 @@ module _ {M : Type 1} (𝓤 : URA M) (H : Heap 𝓤) (A : Atoms 𝓤) (W : Given
 
   -- the locals are allocated, and the parameters passed
   walk : (𝓣 : Tables 𝓤 H) → Triple 𝓤 (𝓣 .C #bus·turn) (Turn 𝓤 H A mem run) → Room u8 (length im) → Room R (length ys)
-      → ent 𝓤 (onEntry 𝓤 H A turn-all.signature (κ, (κ′, tt)) (q, (q′, tt)) a vals) (WpFn 𝓤 H (𝓣 .C) (𝓣 .Λ) code.function (s ∷ s′ ∷ vint w64 n ∷ vint w8 v ∷ vint w64 t ∷ []) Post)
+      → ent 𝓤 (onEntry 𝓤 H A turn-all.signature (κ, (κ′, tt)) (q, (q′, tt)) a vals) (WpFn 𝓤 H (𝓣 .C) (𝓣 .Λ) code.function (s ∷ s′ ∷ vint w64 n ∷ vint w8 v ∷ vbool t ∷ []) Post)
   walk 𝓣 known room-im room =
-      qed W ((‵ (flft κ q) ⊛ ‵ (flft κ′ q′) ⊛ ‵ ftrue) ∷ ‵ (owns (MutSlice (named 0) κ u8 ∷ MutSlice (named 1) κ′ R ∷ usize ∷ u8 ∷ u64 ∷ []) a vals) ∷ []) ∵ enter ! (𝓣 .C) (𝓣 .Λ) code.function (s ∷ s′ ∷ vint w64 n ∷ vint w8 v ∷ vint w64 t ∷ []) _ $
+      qed W ((‵ (flft κ q) ⊛ ‵ (flft κ′ q′) ⊛ ‵ ftrue) ∷ ‵ (owns (MutSlice (named 0) κ u8 ∷ MutSlice (named 1) κ′ R ∷ usize ∷ u8 ∷ bool ∷ []) a vals) ∷ []) ∵ enter ! (𝓣 .C) (𝓣 .Λ) code.function (s ∷ s′ ∷ vint w64 n ∷ vint w8 v ∷ vbool t ∷ []) _ $
       alloc1 ! (λ l₀. alloc1 ! (λ l₁. alloc1 ! (λ l₂. alloc1 ! (λ l₃. alloc1 ! (λ l₄. alloc1 ! (λ l₅. alloc1 ! (λ l₆. alloc1 ! (λ l₇. alloc1 ! (λ l₈. alloc1 ! (λ l₉. alloc1 ! (λ l₁₀. alloc1 ! (λ l₁₁. alloc1 ! (λ l₁₂. alloc1 ! (λ l₁₃. alloc1 ! (λ l₁₄. alloc1 ! (λ l₁₅. alloc0 ! $ params1 ! $
-      pass1 ! (init ! 28 refl (tt, (tt, (record { fits = room-im .0 }, tt)))) $ pass1 ! (init ! 26 refl (tt, (tt, (record { fits = room .0 }, tt)))) $ pass1 ! (init ! 24 refl (tt, record { fits = n-fits })) $ pass1 ! (init ! 22 refl (tt, record { fits = v-fits })) $ pass1 ! (init ! 20 refl (tt, record { fits = t-fits })) $ pass0 ! $
+      pass1 ! (init ! 28 refl (tt, (tt, (record { fits = room-im .0 }, tt)))) $ pass1 ! (init ! 26 refl (tt, (tt, (record { fits = room .0 }, tt)))) $ pass1 ! (init ! 24 refl (tt, record { fits = n-fits })) $ pass1 ! (init ! 22 refl (tt, record { fits = v-fits })) $ pass1 ! (init ! 20 refl (tt, tt)) $ pass0 ! $
       begins 𝓣 (fmOf 𝓤 H (W .laws) 𝓣) known room-im room l₀ l₁ l₂ l₃ l₄ l₅ l₆ l₇ l₈ l₉ l₁₀ l₁₁ l₁₂ l₁₃ l₁₄ l₁₅))))))))))))))))
 
 module _ {M : Type 1} (𝓤 : URA M) (H : Heap 𝓤) (A : Atoms 𝓤) (W : Given 𝓤 H A) (mem : Memory → SProp 𝓤) (run : Routine → Fun 𝓤) (𝓣 : Tables 𝓤 H) (known : Triple 𝓤 (𝓣 .C #bus·turn) (Turn 𝓤 H A mem run)) where
   turn-all-walks : Walks 𝓤 H A turn-all.ended stayed (WpFn 𝓤 H (𝓣 .C) (𝓣 .Λ) code.function) (turn-all.clauses 𝓤 H A mem run)
   turn-all-walks = walked 𝓤 H A turn-all.ended stayed (turn-all.clauses 𝓤 H A mem run) (WpFn 𝓤 H (𝓣 .C) (𝓣 .Λ) code.function)
-      (λ κs. (slice-vals, (slice-vals, (uint-vals w64, (uint-vals w8, (uint-vals w64, tt)))))) (λ κs. (mut-slice-tells (named 0) (κs .0) u8, (mut-slice-tells (named 1) (κs .1 .0) R, (uint-tells w64, (uint-tells w8, (uint-tells w64, tt))))))
+      (λ κs. (slice-vals, (slice-vals, (uint-vals w64, (uint-vals w8, (bool-vals, tt)))))) (λ κs. (mut-slice-tells (named 0) (κs .0) u8, (mut-slice-tells (named 1) (κs .1 .0) R, (uint-tells w64, (uint-tells w8, (bool-tells, tt))))))
       (λ κs qs bounds a g are. needs 𝓤 (a .1 .1 .0 ≤ length (a .1 .0 .now)) _ (λ few.
-      walk 𝓤 H A W mem run (κs .0) (κs .1 .0) (qs .0) (qs .1 .0) (a .0 .ptr .0) (a .0 .ptr .1) (a .0 .name) (a .0 .now) (a .1 .0 .ptr .0) (a .1 .0 .ptr .1) (a .1 .0 .name) (a .1 .0 .now) (a .1 .1 .0) (a .1 .1 .1 .0) (a .1 .1 .1 .1 .0) (are .1 .1 .0 .1) (are .1 .1 .1 .0 .1) (are .1 .1 .1 .1 .0 .1) few 𝓣 known (are .0 .0 .1) (are .1 .0 .0 .1)))
+      walk 𝓤 H A W mem run (κs .0) (κs .1 .0) (qs .0) (qs .1 .0) (a .0 .ptr .0) (a .0 .ptr .1) (a .0 .name) (a .0 .now) (a .1 .0 .ptr .0) (a .1 .0 .ptr .1) (a .1 .0 .name) (a .1 .0 .now) (a .1 .1 .0) (a .1 .1 .1 .0) (a .1 .1 .1 .1 .0) (are .1 .1 .0 .1) (are .1 .1 .1 .0 .1) few 𝓣 known (are .0 .0 .1) (are .1 .0 .0 .1)))
 
   turn-all-meets : Meets 𝓤 H A turn-all.signature (WpFn 𝓤 H (𝓣 .C) (𝓣 .Λ) code.function) (turn-all.spec 𝓤 H A mem run)
   turn-all-meets =
-      walk-meets 𝓤 H A turn-all.ended stayed W (goes-slice 𝓤 H A W 2 0 tt (plain (λ _. u8)), (goes-slice 𝓤 H A W 2 1 tt (plain (λ _. R)), (goes-none 𝓤 H A W 2 (λ _. usize) yes (λ κs x f. refl), (goes-none 𝓤 H A W 2 (λ _. u8) yes (λ κs x f. refl), (goes-none 𝓤 H A W 2 (λ _. u64) yes (λ κs x f. refl), tt))))) (turn-all.clauses 𝓤 H A mem run)
+      walk-meets 𝓤 H A turn-all.ended stayed W (goes-slice 𝓤 H A W 2 0 tt (plain (λ _. u8)), (goes-slice 𝓤 H A W 2 1 tt (plain (λ _. R)), (goes-none 𝓤 H A W 2 (λ _. usize) yes (λ κs x f. refl), (goes-none 𝓤 H A W 2 (λ _. u8) yes (λ κs x f. refl), (goes-none 𝓤 H A W 2 (λ _. bool) yes (λ κs x f. refl), tt))))) (turn-all.clauses 𝓤 H A mem run)
       (WpFn 𝓤 H (𝓣 .C) (𝓣 .Λ) code.function) (WpFn-mono 𝓤 H (W .laws) 𝓣 code.function) turn-all-walks
 
 pub turn-all-spec : {M : Type 1} → stated.statement M

@@ -1,12 +1,12 @@
 -- `search::exchange` meets its contract: a walk of its MIR, by hand, with a loop that sends what the master answers and steps the master with the level.
--- Every slice is held closed. Each call is passed a copy of the image, at its own lifetime, and lends again what else it takes, for a lifetime that is made for the call (`Again.antt` of `bus`). The master's last step is a local, by value, and so is its side of a stretch.
--- A turn is four declarations, `more`, `tells`, `gives` and `counts`: `rest-of` names the parts of the MIR at which it is cut.
--- The state after k exchanges is `exchanges image k` of the state on entry (`Loop.antt`), by recursion on k. A turn goes from k to k and as many as its stretch has events (`Turns.antt`); after as many as the search has events the master has ended, and the state is the search's.
+-- Every slice is held closed. Each call is passed a copy of the image, at its own lifetime, and lends again what else it takes, for a lifetime that is made for the call (`Again.antt` of `bus`). The master's last step is a local, by value.
+-- A turn is three declarations, `more`, `stepped` and `written`: `rest-of` names the parts of the MIR at which it is cut.
+-- The state after k exchanges is `exchanges image k` of the state on entry (`Loop.antt`), by recursion on k, so the invariant holds at k + 1 by computation; after as many as the search has events the master has ended, and the state is the search's.
 -- All that it knows of its callees is that each meets its contract.
 -- Assumes nothing.
 use mathlib.Core.Path.{_≡_, refl, sym, ap, subst, _∙_}
-use Prim.Native.Nat.{ℕ, zero, suc, _<_, _+_, _-_, _^_}
-use native.Mathlib.Nat.{add-zero, zero-add}
+use Prim.Native.Nat.{ℕ, zero, suc, _<_, _≤_, _+_, _^_}
+use native.Mathlib.Nat.{lt-suc-self, add-zero, add-suc, suc-add, zero-add}
 use native.Mathlib.Omega.{arith}
 use mathlib.Core.Bool.{Bool}
 use mathlib.Core.List.{[], _∷_, List}
@@ -34,8 +34,8 @@ use sound.Loop.{loop-rule}
 use denote.RattleType.{owns}
 use denote.Laws.{Is, shows}
 use denote.Memory.{pointee}
-use denote.Plain.{uint-makes, uint-lawful, bool-lawful}
-use denote.Builtin.{u8, u64, usize, bool, unit}
+use denote.Plain.{uint-makes, uint-lawful, bool-makes, bool-lawful}
+use denote.Builtin.{u8, usize, bool, unit}
 use denote.Ref.{RefT}
 use denote.Slice.{sliceTy, sliceVal, MutSlice, ShrSlice, Room, slice-vals, mut-slice-tells, shr-slice-tells, shr-slice-copy}
 use denote.Steps.{only, owned, peeks, heard, nothing}
@@ -49,26 +49,19 @@ use denote.Triple.Spec.{Meets, tripleOf}
 use denote.Triple.Table.{entered, cited}
 use denote.Triple.Walked.{says, needs, Stays, stay-slice, stay-none-slice, walkOf, goes-slice, goes-none-slice, Walks, ends-at, walked, walk-meets}
 use denote.Exit.{yes}
-use Rattle.bits.specs.Slots.{countIn}
-use Rattle.image.specs.Image.{countOf}
 use Rattle.device.specs.declared.LineState.{LineState}
 use Rattle.master.specs.declared.Step.{Step}
 use Rattle.master.specs.Master.{fresh, stepOf}
 use Rattle.master.proofs.Step as P
 use Rattle.master.proofs.Step.Laws as P′
-use Rattle.bus.specs.Loops.{statesGiven}
+use Rattle.bus.specs.Loops.{levelOn}
 use Rattle.bus.proofs.Again.{LentAgain, SharedAgain, lends-kept, back-kept, shares-kept, shared-back}
-use Rattle.bus.proofs.Lines.{unit-typed, R}
+use Rattle.bus.proofs.Lines.{one-more, fits-next, unit-typed, R}
 use Rattle.bus.proofs.Parts.{rest-of}
-use Rattle.search.specs.declared.Told.{Told}
-use Rattle.search.specs.Exchange.{hasEvent, eventIn, Ready, toldOf, toldTrace, toldCodes}
-use Rattle.search.proofs.Told as T
-use Rattle.search.proofs.Told.Laws as T′
-use Rattle.search.proofs.Steps.{Q, machP, tellsP, spelledP, typedP, U, machT, tellsT, spelledT, typedT}
-use Rattle.search.proofs.Loop.{State, state, exchanges, lines-length, trace-length, codes-length, goes, stops, codes-done, trace-done, lines-done, events-few}
+use Rattle.search.specs.Exchange.{hasEvent, eventIn, Ready}
+use Rattle.search.proofs.Steps.{Q, machP, tellsP, spelledP, typedP}
+use Rattle.search.proofs.Loop.{State, state, exchanges, sentIn, levelIn, lines-length, trace-length, codes-length, goes, stops, codes-done, trace-done, lines-done, fits}
 use Rattle.search.proofs.Loop as Loop
-use Rattle.search.proofs.Turns.{aheadIn, Turn}
-use Rattle.search.proofs.Turning.{turn}
 use Rattle.search.proofs.first_step as first-step
 use Rattle.search.proofs.first_step.Symbol as first-step-def
 use Rattle.search.proofs.first_step.Symbol.{name as #search·first-step}
@@ -81,30 +74,18 @@ use Rattle.search.proofs.event_in as event-in
 use Rattle.search.proofs.event_in.Symbol as event-in-def
 use Rattle.search.proofs.event_in.Symbol.{name as #search·event-in}
 use Rattle.search.proofs.event_in.Met as event-in-thm
-use Rattle.bus.proofs.ahead as ahead
-use Rattle.bus.proofs.ahead.Symbol as ahead-def
-use Rattle.bus.proofs.ahead.Symbol.{name as #bus·ahead}
-use Rattle.bus.proofs.ahead.Met as ahead-thm
-use Rattle.search.proofs.tell as tell
-use Rattle.search.proofs.tell.Symbol as tell-def
-use Rattle.search.proofs.tell.Symbol.{name as #search·tell}
-use Rattle.search.proofs.tell.Met as tell-thm
-use Rattle.search.proofs.stretch_in as stretch-in
-use Rattle.search.proofs.stretch_in.Symbol as stretch-in-def
-use Rattle.search.proofs.stretch_in.Symbol.{name as #search·stretch-in}
-use Rattle.search.proofs.stretch_in.Met as stretch-in-thm
-use Rattle.bus.proofs.steps_all as steps-all
-use Rattle.bus.proofs.steps_all.Symbol as steps-all-def
-use Rattle.bus.proofs.steps_all.Symbol.{name as #bus·steps-all}
-use Rattle.bus.proofs.steps_all.Met as steps-all-thm
-use Rattle.search.proofs.step_in as step-in
-use Rattle.search.proofs.step_in.Symbol as step-in-def
-use Rattle.search.proofs.step_in.Symbol.{name as #search·step-in}
-use Rattle.search.proofs.step_in.Met as step-in-thm
-use Rattle.bus.proofs.stretch_length as stretch-length
-use Rattle.bus.proofs.stretch_length.Symbol as stretch-length-def
-use Rattle.bus.proofs.stretch_length.Symbol.{name as #bus·stretch-length}
-use Rattle.bus.proofs.stretch_length.Met as stretch-length-thm
+use Rattle.bus.proofs.level as level
+use Rattle.bus.proofs.level.Symbol as level-def
+use Rattle.bus.proofs.level.Symbol.{name as #bus·level}
+use Rattle.bus.proofs.level.Met as level-thm
+use Rattle.bus.proofs.step_all as step-all
+use Rattle.bus.proofs.step_all.Symbol as step-all-def
+use Rattle.bus.proofs.step_all.Symbol.{name as #bus·step-all}
+use Rattle.bus.proofs.step_all.Met as step-all-thm
+use Rattle.search.proofs.next_step as next-step
+use Rattle.search.proofs.next_step.Symbol as next-step-def
+use Rattle.search.proofs.next_step.Symbol.{name as #search·next-step}
+use Rattle.search.proofs.next_step.Met as next-step-thm
 use Rattle.search.proofs.exchange.Key.{name as #search·exchange}
 use Rattle.search.proofs.exchange as exchange
 use Rattle.search.proofs.exchange.Statement as stated
@@ -125,23 +106,14 @@ module _ {M : Type 1} (𝓤 : URA M) (H : Heap 𝓤) (A : Atoms 𝓤) (mem : Mem
   abbrev In : Contract 𝓤
   In = tripleOf 𝓤 H A event-in.signature (event-in.spec 𝓤 H A mem run)
 
-  abbrev Ahead : Contract 𝓤
-  Ahead = tripleOf 𝓤 H A ahead.signature (ahead.spec 𝓤 H A mem run)
+  abbrev Level : Contract 𝓤
+  Level = tripleOf 𝓤 H A level.signature (level.spec 𝓤 H A mem run)
 
-  abbrev Tell : Contract 𝓤
-  Tell = tripleOf 𝓤 H A tell.signature (tell.spec 𝓤 H A mem run)
+  abbrev StepAll : Contract 𝓤
+  StepAll = tripleOf 𝓤 H A step-all.signature (step-all.spec 𝓤 H A mem run)
 
-  abbrev Stretch : Contract 𝓤
-  Stretch = tripleOf 𝓤 H A stretch-in.signature (stretch-in.spec 𝓤 H A mem run)
-
-  abbrev StepsAll : Contract 𝓤
-  StepsAll = tripleOf 𝓤 H A steps-all.signature (steps-all.spec 𝓤 H A mem run)
-
-  abbrev StepIn : Contract 𝓤
-  StepIn = tripleOf 𝓤 H A step-in.signature (step-in.spec 𝓤 H A mem run)
-
-  abbrev Length : Contract 𝓤
-  Length = tripleOf 𝓤 H A stretch-length.signature (stretch-length.spec 𝓤 H A mem run)
+  abbrev Next : Contract 𝓤
+  Next = tripleOf 𝓤 H A next-step.signature (next-step.spec 𝓤 H A mem run)
 
 module _ {M : Type 1} (𝓤 : URA M) (H : Heap 𝓤) (A : Atoms 𝓤) (W : Given 𝓤 H A) (mem : Memory → SProp 𝓤) (run : Routine → Fun 𝓤) (κ κ₁ κ₂ κ₃ : Lft) (q q₁ q₂ q₃ : Share)
     (b o : ℕ) (γ : GName) (im : List ℕ) (b₁ o₁ : ℕ) (γ₁ : GName) (codes : List ℕ) (b₂ o₂ : ℕ) (γ₂ : GName) (trace : List ℕ) (b₃ o₃ : ℕ) (γ₃ : GName) (ys : List LineState) (ready : Ready im codes trace ys) where
@@ -155,25 +127,12 @@ module _ {M : Type 1} (𝓤 : URA M) (H : Heap 𝓤) (A : Atoms 𝓤) (W : Given
   abbrev st : ℕ → State
   st k = exchanges im k entry
 
-  -- event k, what the devices leave the line at ahead of it, and the master's side of the stretch from it on
+  -- event k and its level
   abbrev v : ℕ → ℕ
   v k = eventIn (st k .step .answer)
 
-  abbrev ah : ℕ → ℕ
-  ah k = aheadIn im (st k .lines)
-
-  abbrev td : ℕ → Told
-  td k = toldOf im (st k .step) (ah k)
-
-  abbrev str : ℕ → ℕ
-  str k = td k .stretch
-
-  -- the event after it
-  abbrev on : ℕ → ℕ
-  on k = k + countIn (str k)
-
-  turned : (k : ℕ) → k < n → Turn im codes trace ys ready k (td k) (toldTrace im (st k .trace) k (st k .step) (ah k)) (toldCodes im (st k .codes) (st k .step) (ah k))
-  turned k small = turn im codes trace ys ready k small
+  abbrev lv : ℕ → Bool
+  lv k = levelOn im (st k .lines) (v k)
 
   -- the image, and the other slices, each under a name δ at a list l; their machine values
   abbrev x : RefT (List ℕ)
@@ -268,79 +227,42 @@ module _ {M : Type 1} (𝓤 : URA M) (H : Heap 𝓤) (A : Atoms 𝓤) (W : Given
   in-of : (k r : ℕ) → ent 𝓤 (ensured 𝓤 H A event-in.ended (event-in.clauses 𝓤 H A mem run) tt (st k .step, tt) tt r) (fact 𝓤 (r ≡ v k))
   in-of k r = exE 𝓤 _ (λ ws. snd∗ 𝓤 (sem 𝓤 H A (lasts event-in.ended tt (st k .step, tt) ws)) (fact 𝓤 (r ≡ v k)))
 
-  abbrev ahead-args : ℕ → GName → RefT (List ℕ) × (RefT (List LineState) × Unit {0})
-  ahead-args k δ = (x, (x₃ δ (st k .lines), tt))
+  abbrev level-args : ℕ → GName → RefT (List ℕ) × (RefT (List LineState) × (ℕ × Unit {0}))
+  level-args k δ = (x, (x₃ δ (st k .lines), (v k, tt)))
 
-  abbrev to-ahead : ℕ → ℕ → GName → Ahead 𝓤 H A mem run .Ghost
-  to-ahead k ν δ = (((κ, (ν ∷ [], tt)), (q, (fullShare, tt)), tt, ahead-args k δ, (s ∷ [], (s₃ ∷ [], tt))), tt)
+  abbrev to-level : ℕ → ℕ → GName → Level 𝓤 H A mem run .Ghost
+  to-level k ν δ = (((κ, (ν ∷ [], tt)), (q, (fullShare, tt)), tt, level-args k δ, (s ∷ [], (s₃ ∷ [], (vint w8 (v k) ∷ [], tt)))), tt)
 
-  goes-ahead : (k ν : ℕ) (δ : GName) → ent 𝓤 (sep 𝓤 (sep 𝓤 (A .lft κ q) (A .lft (ν ∷ []) fullShare)) (sep 𝓤 (sem 𝓤 H A Image) (sem 𝓤 H A (ShrSlice (named 1) (ν ∷ []) R .own (x₃ δ (st k .lines)) (s₃ ∷ []))))) (Ahead 𝓤 H A mem run .pre (to-ahead k ν δ))
-  goes-ahead k ν δ =
-      qed W ((‵ (flft κ q) ⊛ ‵ (flft (ν ∷ []) fullShare)) ∷ (‵ Image ⊛ ‵ (ShrSlice (named 1) (ν ∷ []) R .own (x₃ δ (st k .lines)) (s₃ ∷ []))) ∷ []) ∵ split ! $ move ! (2 ∷ []) $ split ! $ nothing ! $ move ! (4 ∷ 0 ∷ []) $ join ! $ move ! (3 ∷ 0 ∷ []) $ join ! $
-      nothing ! $ move ! (3 ∷ 0 ∷ []) $ fjoin ! $ move ! (2 ∷ 0 ∷ []) $ fjoin ! $ move ! (1 ∷ 0 ∷ []) $ join ! $ frame ! $ done !
+  goes-level : (k ν : ℕ) (δ : GName) → v k < 2 ^ 8 → ent 𝓤 (sep 𝓤 (sep 𝓤 (A .lft κ q) (A .lft (ν ∷ []) fullShare)) (sep 𝓤 (sem 𝓤 H A Image) (sem 𝓤 H A (ShrSlice (named 1) (ν ∷ []) R .own (x₃ δ (st k .lines)) (s₃ ∷ []))))) (Level 𝓤 H A mem run .pre (to-level k ν δ))
+  goes-level k ν δ v-fits =
+      qed W ((‵ (flft κ q) ⊛ ‵ (flft (ν ∷ []) fullShare)) ∷ (‵ Image ⊛ ‵ (ShrSlice (named 1) (ν ∷ []) R .own (x₃ δ (st k .lines)) (s₃ ∷ []))) ∷ []) ∵ split ! $ move ! (2 ∷ []) $ split ! $ nothing ! $ move ! (4 ∷ 0 ∷ []) $ join ! $ move ! (3 ∷ 0 ∷ []) $ join ! $ nothing ! $ owned ! u8 (Is u8) (uint-makes 𝓤 H A W w8) (v k) (vint w8 (v k) ∷ []) (refl, v-fits) $ fjoin ! $ move ! (3 ∷ 0 ∷ []) $ fjoin ! $ move ! (2 ∷ 0 ∷ []) $ fjoin ! $ move ! (1 ∷ 0 ∷ []) $ join ! $ frame ! $ done !
 
-  ahead-of : (k ν : ℕ) (δ : GName) (r : ℕ) → ent 𝓤 (ensured 𝓤 H A ahead.ended (ahead.clauses 𝓤 H A mem run) (κ, (ν ∷ [], tt)) (ahead-args k δ) tt r) (fact 𝓤 (r ≡ ah k))
-  ahead-of k ν δ r = exE 𝓤 _ (λ ws. snd∗ 𝓤 (sem 𝓤 H A (lasts ahead.ended (κ, (ν ∷ [], tt)) (ahead-args k δ) ws)) (fact 𝓤 (r ≡ ah k)))
+  level-of : (k ν : ℕ) (δ : GName) (r : Bool) → ent 𝓤 (ensured 𝓤 H A level.ended (level.clauses 𝓤 H A mem run) (κ, (ν ∷ [], tt)) (level-args k δ) tt r) (fact 𝓤 (r ≡ lv k))
+  level-of k ν δ r = exE 𝓤 _ (λ ws. snd∗ 𝓤 (sem 𝓤 H A (lasts level.ended (κ, (ν ∷ [], tt)) (level-args k δ) ws)) (fact 𝓤 (r ≡ lv k)))
 
-  abbrev tell-args : ℕ → GName → GName → RefT (List ℕ) × (RefT (List ℕ) × (RefT (List ℕ) × (ℕ × (Step × (ℕ × Unit {0})))))
-  tell-args k δ δ′ = (x, (x₁ δ (st k .codes), (x₂ δ′ (st k .trace), (k, (st k .step, (ah k, tt))))))
+  abbrev step-args : ℕ → GName → RefT (List ℕ) × (RefT (List LineState) × (ℕ × (Bool × Unit {0})))
+  step-args k δ = (x, (x₃ δ (st k .lines), (v k, (lv k, tt))))
 
-  abbrev to-tell : ℕ → ℕ → ℕ → GName → GName → Tell 𝓤 H A mem run .Ghost
-  to-tell k ν ν′ δ δ′ = (((κ, (ν ∷ [], (ν′ ∷ [], tt))), (q, (fullShare, (fullShare, tt))), tt, tell-args k δ δ′, (s ∷ [], (s₁ ∷ [], (s₂ ∷ [], (vint w64 k ∷ [], (machP (st k .step) ∷ [], (vint w64 (ah k) ∷ [], tt))))))), tt)
+  abbrev to-step : ℕ → ℕ → GName → StepAll 𝓤 H A mem run .Ghost
+  to-step k ν δ = (((κ, (ν ∷ [], tt)), (q, (fullShare, tt)), tt, step-args k δ, (s ∷ [], (s₃ ∷ [], (vint w8 (v k) ∷ [], (vbool (lv k) ∷ [], tt))))), tt)
 
-  goes-tell : (k ν ν′ : ℕ) (δ δ′ : GName) → Is Q (st k .step) (machP (st k .step) ∷ []) → k < 65536 → k < 2 ^ 64 → ah k < 2 ^ 64
-      → ent 𝓤 (sep 𝓤 (sep 𝓤 (A .lft κ q) (sep 𝓤 (A .lft (ν ∷ []) fullShare) (A .lft (ν′ ∷ []) fullShare))) (sep 𝓤 (sem 𝓤 H A Image) (sep 𝓤 (sem 𝓤 H A (MutSlice (named 1) (ν ∷ []) u8 .own (x₁ δ (st k .codes)) (s₁ ∷ []))) (sem 𝓤 H A (MutSlice (named 2) (ν′ ∷ []) u8 .own (x₂ δ′ (st k .trace)) (s₂ ∷ [])))))) (Tell 𝓤 H A mem run .pre (to-tell k ν ν′ δ δ′))
-  goes-tell k ν ν′ δ δ′ is small k-fits ah-fits =
-      qed W ((‵ (flft κ q) ⊛ (‵ (flft (ν ∷ []) fullShare) ⊛ ‵ (flft (ν′ ∷ []) fullShare))) ∷ (‵ Image ⊛ (‵ (MutSlice (named 1) (ν ∷ []) u8 .own (x₁ δ (st k .codes)) (s₁ ∷ [])) ⊛ ‵ (MutSlice (named 2) (ν′ ∷ []) u8 .own (x₂ δ′ (st k .trace)) (s₂ ∷ [])))) ∷ []) ∵ says ! small $
-      split ! $ move ! (1 ∷ []) $ split ! $ move ! (3 ∷ []) $ split ! $ move ! (1 ∷ []) $ split ! $
-      nothing ! $ move ! (5 ∷ 0 ∷ []) $ join ! $ move ! (4 ∷ 0 ∷ []) $ join ! $ move ! (4 ∷ 0 ∷ []) $ join ! $ frame ! $
-      nothing ! $ owned ! u64 (Is u64) (uint-makes 𝓤 H A W w64) (ah k) (vint w64 (ah k) ∷ []) (refl, ah-fits) $ fjoin ! $ owned ! Q (Is Q) (LL.makes P.the-type P′.the-plain 𝓤 H A) (st k .step) (machP (st k .step) ∷ []) is $ fjoin ! $ owned ! usize (Is usize) (uint-makes 𝓤 H A W w64) k (vint w64 k ∷ []) (refl, k-fits) $ fjoin ! $
-      move ! (2 ∷ 0 ∷ []) $ fjoin ! $ move ! (1 ∷ 0 ∷ []) $ fjoin ! $ move ! (1 ∷ 0 ∷ []) $ fjoin ! $ done !
+  goes-step : (k ν : ℕ) (δ : GName) → v k < 2 ^ 8 → ent 𝓤 (sep 𝓤 (sep 𝓤 (A .lft κ q) (A .lft (ν ∷ []) fullShare)) (sep 𝓤 (sem 𝓤 H A Image) (sem 𝓤 H A (MutSlice (named 1) (ν ∷ []) R .own (x₃ δ (st k .lines)) (s₃ ∷ []))))) (StepAll 𝓤 H A mem run .pre (to-step k ν δ))
+  goes-step k ν δ v-fits =
+      qed W ((‵ (flft κ q) ⊛ ‵ (flft (ν ∷ []) fullShare)) ∷ (‵ Image ⊛ ‵ (MutSlice (named 1) (ν ∷ []) R .own (x₃ δ (st k .lines)) (s₃ ∷ []))) ∷ []) ∵ split ! $ move ! (2 ∷ []) $ split ! $ nothing ! $ move ! (4 ∷ 0 ∷ []) $ join ! $ move ! (3 ∷ 0 ∷ []) $ join ! $ nothing ! $ owned ! bool (Is bool) (bool-makes 𝓤 H A W) (lv k) (vbool (lv k) ∷ []) refl $ fjoin ! $ owned ! u8 (Is u8) (uint-makes 𝓤 H A W w8) (v k) (vint w8 (v k) ∷ []) (refl, v-fits) $ fjoin ! $ move ! (3 ∷ 0 ∷ []) $ fjoin ! $ move ! (2 ∷ 0 ∷ []) $ fjoin ! $ move ! (1 ∷ 0 ∷ []) $ join ! $ frame ! $ done !
 
-  abbrev to-stretch : ℕ → Stretch 𝓤 H A mem run .Ghost
-  to-stretch k = ((tt, tt, tt, (td k, tt), (machT (td k) ∷ [], tt)), tt)
+  abbrev next-args : ℕ → GName → GName → RefT (List ℕ) × (RefT (List ℕ) × (ℕ × (Step × (ℕ × (Bool × Unit {0})))))
+  next-args k δ δ′ = (x₁ δ (st k .codes), (x₂ δ′ (st k .trace), (k, (st k .step, (v k, (lv k, tt))))))
 
-  goes-stretch : (k : ℕ) → Is U (td k) (machT (td k) ∷ []) → ent 𝓤 (emp 𝓤) (Stretch 𝓤 H A mem run .pre (to-stretch k))
-  goes-stretch k is =
-      qed W ([]) ∵ nothing ! $ nothing ! $ owned ! U (Is U) (LL.makes T.the-type T′.the-plain 𝓤 H A) (td k) (machT (td k) ∷ []) is $ fjoin ! $ move ! (1 ∷ 0 ∷ []) $ join ! $ frame ! $ done !
+  abbrev to-next : ℕ → ℕ → ℕ → GName → GName → Next 𝓤 H A mem run .Ghost
+  to-next k ν ν′ δ δ′ = (((ν ∷ [], (ν′ ∷ [], tt)), (fullShare, (fullShare, tt)), tt, next-args k δ δ′, (s₁ ∷ [], (s₂ ∷ [], (vint w64 k ∷ [], (machP (st k .step) ∷ [], (vint w8 (v k) ∷ [], (vbool (lv k) ∷ [], tt))))))), tt)
 
-  stretch-of : (k r : ℕ) → ent 𝓤 (ensured 𝓤 H A stretch-in.ended (stretch-in.clauses 𝓤 H A mem run) tt (td k, tt) tt r) (fact 𝓤 (r ≡ str k))
-  stretch-of k r = exE 𝓤 _ (λ ws. snd∗ 𝓤 (sem 𝓤 H A (lasts stretch-in.ended tt (td k, tt) ws)) (fact 𝓤 (r ≡ str k)))
+  goes-next : (k ν ν′ : ℕ) (δ δ′ : GName) → Is Q (st k .step) (machP (st k .step) ∷ []) → v k < 2 ^ 8 → k < 2 ^ 64 → ent 𝓤 (sep 𝓤 (sep 𝓤 (A .lft (ν ∷ []) fullShare) (A .lft (ν′ ∷ []) fullShare)) (sep 𝓤 (sem 𝓤 H A (MutSlice (named 0) (ν ∷ []) u8 .own (x₁ δ (st k .codes)) (s₁ ∷ []))) (sem 𝓤 H A (MutSlice (named 1) (ν′ ∷ []) u8 .own (x₂ δ′ (st k .trace)) (s₂ ∷ []))))) (Next 𝓤 H A mem run .pre (to-next k ν ν′ δ δ′))
+  goes-next k ν ν′ δ δ′ is v-fits k-fits =
+      qed W ((‵ (flft (ν ∷ []) fullShare) ⊛ ‵ (flft (ν′ ∷ []) fullShare)) ∷ (‵ (MutSlice (named 0) (ν ∷ []) u8 .own (x₁ δ (st k .codes)) (s₁ ∷ [])) ⊛ ‵ (MutSlice (named 1) (ν′ ∷ []) u8 .own (x₂ δ′ (st k .trace)) (s₂ ∷ []))) ∷ []) ∵ split ! $ move ! (2 ∷ []) $ split ! $ nothing ! $ move ! (4 ∷ 0 ∷ []) $ join ! $ move ! (3 ∷ 0 ∷ []) $ join ! $ nothing ! $ owned ! bool (Is bool) (bool-makes 𝓤 H A W) (lv k) (vbool (lv k) ∷ []) refl $ fjoin ! $ owned ! u8 (Is u8) (uint-makes 𝓤 H A W w8) (v k) (vint w8 (v k) ∷ []) (refl, v-fits) $ fjoin ! $ owned ! Q (Is Q) (LL.makes P.the-type P′.the-plain 𝓤 H A) (st k .step) (machP (st k .step) ∷ []) is $ fjoin ! $ owned ! usize (Is usize) (uint-makes 𝓤 H A W w64) k (vint w64 k ∷ []) (refl, k-fits) $ fjoin ! $ move ! (3 ∷ 0 ∷ []) $ fjoin ! $ move ! (2 ∷ 0 ∷ []) $ fjoin ! $ move ! (1 ∷ 0 ∷ []) $ join ! $ frame ! $ done !
 
-  abbrev steps-args : ℕ → GName → RefT (List ℕ) × (RefT (List LineState) × (ℕ × (ℕ × Unit {0})))
-  steps-args k δ = (x, (x₃ δ (st k .lines), (v k, (str k, tt))))
-
-  abbrev to-steps : ℕ → ℕ → GName → StepsAll 𝓤 H A mem run .Ghost
-  to-steps k ν δ = (((κ, (ν ∷ [], tt)), (q, (fullShare, tt)), tt, steps-args k δ, (s ∷ [], (s₃ ∷ [], (vint w8 (v k) ∷ [], (vint w64 (str k) ∷ [], tt))))), tt)
-
-  goes-steps : (k ν : ℕ) (δ : GName) → v k < 2 ^ 8 → str k < 2 ^ 64 → ent 𝓤 (sep 𝓤 (sep 𝓤 (A .lft κ q) (A .lft (ν ∷ []) fullShare)) (sep 𝓤 (sem 𝓤 H A Image) (sem 𝓤 H A (MutSlice (named 1) (ν ∷ []) R .own (x₃ δ (st k .lines)) (s₃ ∷ []))))) (StepsAll 𝓤 H A mem run .pre (to-steps k ν δ))
-  goes-steps k ν δ v-fits str-fits =
-      qed W ((‵ (flft κ q) ⊛ ‵ (flft (ν ∷ []) fullShare)) ∷ (‵ Image ⊛ ‵ (MutSlice (named 1) (ν ∷ []) R .own (x₃ δ (st k .lines)) (s₃ ∷ []))) ∷ []) ∵ split ! $ move ! (2 ∷ []) $ split ! $ nothing ! $ move ! (4 ∷ 0 ∷ []) $ join ! $ move ! (3 ∷ 0 ∷ []) $ join ! $
-      nothing ! $ owned ! u64 (Is u64) (uint-makes 𝓤 H A W w64) (str k) (vint w64 (str k) ∷ []) (refl, str-fits) $ fjoin ! $ owned ! u8 (Is u8) (uint-makes 𝓤 H A W w8) (v k) (vint w8 (v k) ∷ []) (refl, v-fits) $ fjoin ! $ move ! (3 ∷ 0 ∷ []) $ fjoin ! $ move ! (2 ∷ 0 ∷ []) $ fjoin ! $ move ! (1 ∷ 0 ∷ []) $ join ! $ frame ! $ done !
-
-  abbrev to-step : ℕ → StepIn 𝓤 H A mem run .Ghost
-  to-step k = ((tt, tt, tt, (td k, tt), (machT (td k) ∷ [], tt)), tt)
-
-  goes-step : (k : ℕ) → Is U (td k) (machT (td k) ∷ []) → ent 𝓤 (emp 𝓤) (StepIn 𝓤 H A mem run .pre (to-step k))
-  goes-step k is =
-      qed W ([]) ∵ nothing ! $ nothing ! $ owned ! U (Is U) (LL.makes T.the-type T′.the-plain 𝓤 H A) (td k) (machT (td k) ∷ []) is $ fjoin ! $ move ! (1 ∷ 0 ∷ []) $ join ! $ frame ! $ done !
-
-  step-of : (k : ℕ) (r : Step) → ent 𝓤 (ensured 𝓤 H A step-in.ended (step-in.clauses 𝓤 H A mem run) tt (td k, tt) tt r) (fact 𝓤 (r ≡ td k .step))
-  step-of k r = exE 𝓤 _ (λ ws. snd∗ 𝓤 (sem 𝓤 H A (lasts step-in.ended tt (td k, tt) ws)) (fact 𝓤 (r ≡ td k .step)))
-
-  abbrev to-length : ℕ → Length 𝓤 H A mem run .Ghost
-  to-length k = ((tt, tt, tt, (str k, tt), (vint w64 (str k) ∷ [], tt)), tt)
-
-  goes-length : (k : ℕ) → str k < 2 ^ 64 → ent 𝓤 (emp 𝓤) (Length 𝓤 H A mem run .pre (to-length k))
-  goes-length k str-fits =
-      qed W ([]) ∵ nothing ! $ nothing ! $ owned ! u64 (Is u64) (uint-makes 𝓤 H A W w64) (str k) (vint w64 (str k) ∷ []) (refl, str-fits) $ fjoin ! $ move ! (1 ∷ 0 ∷ []) $ join ! $ frame ! $ done !
-
-  length-of : (k r : ℕ) → ent 𝓤 (ensured 𝓤 H A stretch-length.ended (stretch-length.clauses 𝓤 H A mem run) tt (str k, tt) tt r) (fact 𝓤 (r ≡ countIn (str k)))
-  length-of k r = exE 𝓤 _ (λ ws. snd∗ 𝓤 (sem 𝓤 H A (lasts stretch-length.ended tt (str k, tt) ws)) (fact 𝓤 (r ≡ countIn (str k))))
-
-  module _ (𝓣 : Tables 𝓤 H) (fm : FmC 𝓤 H (W .laws) (𝓣 .C)) (known-first : Triple 𝓤 (𝓣 .C #search·first-step) (First 𝓤 H A mem run)) (known-has : Triple 𝓤 (𝓣 .C #search·has-event) (Has 𝓤 H A mem run)) (known-in : Triple 𝓤 (𝓣 .C #search·event-in) (In 𝓤 H A mem run)) (known-ahead : Triple 𝓤 (𝓣 .C #bus·ahead) (Ahead 𝓤 H A mem run)) (known-tell : Triple 𝓤 (𝓣 .C #search·tell) (Tell 𝓤 H A mem run)) (known-stretch : Triple 𝓤 (𝓣 .C #search·stretch-in) (Stretch 𝓤 H A mem run)) (known-steps : Triple 𝓤 (𝓣 .C #bus·steps-all) (StepsAll 𝓤 H A mem run)) (known-step : Triple 𝓤 (𝓣 .C #search·step-in) (StepIn 𝓤 H A mem run)) (known-length : Triple 𝓤 (𝓣 .C #bus·stretch-length) (Length 𝓤 H A mem run))
+  module _ (𝓣 : Tables 𝓤 H) (fm : FmC 𝓤 H (W .laws) (𝓣 .C)) (known-first : Triple 𝓤 (𝓣 .C #search·first-step) (First 𝓤 H A mem run)) (known-has : Triple 𝓤 (𝓣 .C #search·has-event) (Has 𝓤 H A mem run)) (known-in : Triple 𝓤 (𝓣 .C #search·event-in) (In 𝓤 H A mem run)) (known-level : Triple 𝓤 (𝓣 .C #bus·level) (Level 𝓤 H A mem run)) (known-step : Triple 𝓤 (𝓣 .C #bus·step-all) (StepAll 𝓤 H A mem run)) (known-next : Triple 𝓤 (𝓣 .C #search·next-step) (Next 𝓤 H A mem run))
       (room : Room u8 (length im)) (room₁ : Room u8 (length codes)) (room₂ : Room u8 (length trace)) (room₃ : Room R (length ys))
-      (l₀ l₁ l₂ l₃ l₄ l₅ l₆ l₇ l₈ l₉ l₁₀ l₁₁ l₁₂ l₁₃ l₁₄ l₁₅ l₁₆ l₁₇ l₁₈ l₁₉ l₂₀ l₂₁ : ℕ) where
+      (l₀ l₁ l₂ l₃ l₄ l₅ l₆ l₇ l₈ l₉ l₁₀ l₁₁ l₁₂ l₁₃ l₁₄ l₁₅ l₁₆ l₁₇ l₁₈ : ℕ) where
     abbrev C : Calls 𝓤 H
     C = 𝓣 .C
 
@@ -369,36 +291,30 @@ module _ {M : Type 1} (𝓤 : URA M) (H : Heap 𝓤) (A : Atoms 𝓤) (W : Given
     again′ = tyRef erased mut (pointee (R .written))
 
     abbrev En : Env 𝓤 H
-    En = (tyInt w64, l₀) ∷ (bytes, l₁) ∷ (buffer, l₂) ∷ (events, l₃) ∷ (slice, l₄) ∷ (P′.mir, l₅) ∷ (tyInt w64, l₆) ∷ (tyInt w8, l₇) ∷ (tyInt w64, l₈) ∷ (T′.mir, l₉) ∷ (tyInt w64, l₁₀) ∷ (tyBool, l₁₁) ∷ (shared′, l₁₂) ∷ (sliceTy shared′, l₁₃) ∷ (again, l₁₄) ∷ (sliceTy again, l₁₅) ∷ (again, l₁₆) ∷ (sliceTy again, l₁₇) ∷ (tyUnit, l₁₈) ∷ (again′, l₁₉) ∷ (sliceTy again′, l₂₀) ∷ (tyInt w64, l₂₁) ∷ []
+    En = (tyInt w64, l₀) ∷ (bytes, l₁) ∷ (buffer, l₂) ∷ (events, l₃) ∷ (slice, l₄) ∷ (P′.mir, l₅) ∷ (tyInt w64, l₆) ∷ (tyInt w8, l₇) ∷ (tyBool, l₈) ∷ (tyBool, l₉) ∷ (shared′, l₁₀) ∷ (sliceTy shared′, l₁₁) ∷ (tyUnit, l₁₂) ∷ (again′, l₁₃) ∷ (sliceTy again′, l₁₄) ∷ (again, l₁₅) ∷ (sliceTy again, l₁₆) ∷ (again, l₁₇) ∷ (sliceTy again, l₁₈) ∷ []
 
     n-fits : n < 2 ^ 64
-    n-fits = omega (arith, events-few im codes trace ys ready)
+    n-fits = omega (arith, fits im codes trace ys ready, room₂ .0)
 
     -- what no turn touches: the parameters' locals, the result's, and that each local dies
     abbrev Frame : List (Item 𝓤)
-    Frame = ‵ (fat fullShare bytes l₁ 0 s) ∷ ‵ (fat fullShare buffer l₂ 0 s₁) ∷ ‵ (fat fullShare events l₃ 0 s₂) ∷ ‵ (fat fullShare slice l₄ 0 s₃) ∷ ‵ (froom (tyInt w64) l₀ 0) ∷ ‵ (fdies (tyInt w64) l₀) ∷ ‵ (fdies bytes l₁) ∷ ‵ (fdies buffer l₂) ∷ ‵ (fdies events l₃) ∷ ‵ (fdies slice l₄) ∷ ‵ (fdies P′.mir l₅) ∷ ‵ (fdies (tyInt w64) l₆) ∷ ‵ (fdies (tyInt w8) l₇) ∷ ‵ (fdies (tyInt w64) l₈) ∷ ‵ (fdies T′.mir l₉) ∷ ‵ (fdies (tyInt w64) l₁₀) ∷ ‵ (fdies tyBool l₁₁) ∷ ‵ (fdies shared′ l₁₂) ∷ ‵ (fdies (sliceTy shared′) l₁₃) ∷ ‵ (fdies again l₁₄) ∷ ‵ (fdies (sliceTy again) l₁₅) ∷ ‵ (fdies again l₁₆) ∷ ‵ (fdies (sliceTy again) l₁₇) ∷ ‵ (fdies tyUnit l₁₈) ∷ ‵ (fdies again′ l₁₉) ∷ ‵ (fdies (sliceTy again′) l₂₀) ∷ ‵ (fdies (tyInt w64) l₂₁) ∷ []
+    Frame = ‵ (fat fullShare bytes l₁ 0 s) ∷ ‵ (fat fullShare buffer l₂ 0 s₁) ∷ ‵ (fat fullShare events l₃ 0 s₂) ∷ ‵ (fat fullShare slice l₄ 0 s₃) ∷ ‵ (froom (tyInt w64) l₀ 0) ∷ ‵ (fdies (tyInt w64) l₀) ∷ ‵ (fdies bytes l₁) ∷ ‵ (fdies buffer l₂) ∷ ‵ (fdies events l₃) ∷ ‵ (fdies slice l₄) ∷ ‵ (fdies P′.mir l₅) ∷ ‵ (fdies (tyInt w64) l₆) ∷ ‵ (fdies (tyInt w8) l₇) ∷ ‵ (fdies tyBool l₈) ∷ ‵ (fdies tyBool l₉) ∷ ‵ (fdies shared′ l₁₀) ∷ ‵ (fdies (sliceTy shared′) l₁₁) ∷ ‵ (fdies tyUnit l₁₂) ∷ ‵ (fdies again′ l₁₃) ∷ ‵ (fdies (sliceTy again′) l₁₄) ∷ ‵ (fdies again l₁₅) ∷ ‵ (fdies (sliceTy again) l₁₆) ∷ ‵ (fdies again l₁₇) ∷ ‵ (fdies (sliceTy again) l₁₈) ∷ []
 
     -- after k exchanges
-    -- [the image; its token; the codes; its token 1; the trace; its token 2; the lines; its token 3; _5; .. _21; _1; _2; _3; _4; _0; dies _0; .. dies _21]
+    -- [the image; its token; the codes; its token 1; the trace; its token 2; the lines; its token 3; _5; _6; _7; _8; _9; _10; _11; _12; _13; _14; _15; _16; _17; _18; _1; _2; _3; _4; _0; dies _0; dies _1; dies _2; dies _3; dies _4; dies _5; dies _6; dies _7; dies _8; dies _9; dies _10; dies _11; dies _12; dies _13; dies _14; dies _15; dies _16; dies _17; dies _18]
     abbrev At : ℕ → List (Item 𝓤)
-    At k = ‵ Image ∷ ‵ (flft κ q) ∷ ‵ (Codes (st k .codes)) ∷ ‵ (flft κ₁ q₁) ∷ ‵ (Trace (st k .trace)) ∷ ‵ (flft κ₂ q₂) ∷ ‵ (Lines (st k .lines)) ∷ ‵ (flft κ₃ q₃) ∷ ‵ (fat fullShare P′.mir l₅ 0 (machP (st k .step))) ∷ ‵ (fat fullShare (tyInt w64) l₆ 0 (vint w64 k)) ∷ ‵ (froom (tyInt w8) l₇ 0) ∷ ‵ (froom (tyInt w64) l₈ 0) ∷ ‵ (froom T′.mir l₉ 0) ∷ ‵ (froom (tyInt w64) l₁₀ 0) ∷ ‵ (froom tyBool l₁₁ 0) ∷ ‵ (froom shared′ l₁₂ 0) ∷ ‵ (froom (sliceTy shared′) l₁₃ 0) ∷ ‵ (froom again l₁₄ 0) ∷ ‵ (froom (sliceTy again) l₁₅ 0) ∷ ‵ (froom again l₁₆ 0) ∷ ‵ (froom (sliceTy again) l₁₇ 0) ∷ ‵ (froom tyUnit l₁₈ 0) ∷ ‵ (froom again′ l₁₉ 0) ∷ ‵ (froom (sliceTy again′) l₂₀ 0) ∷ ‵ (froom (tyInt w64) l₂₁ 0) ∷ Frame
+    At k = ‵ Image ∷ ‵ (flft κ q) ∷ ‵ (Codes (st k .codes)) ∷ ‵ (flft κ₁ q₁) ∷ ‵ (Trace (st k .trace)) ∷ ‵ (flft κ₂ q₂) ∷ ‵ (Lines (st k .lines)) ∷ ‵ (flft κ₃ q₃) ∷ ‵ (fat fullShare P′.mir l₅ 0 (machP (st k .step))) ∷ ‵ (fat fullShare (tyInt w64) l₆ 0 (vint w64 k)) ∷ ‵ (froom (tyInt w8) l₇ 0) ∷ ‵ (froom tyBool l₈ 0) ∷ ‵ (froom tyBool l₉ 0) ∷ ‵ (froom shared′ l₁₀ 0) ∷ ‵ (froom (sliceTy shared′) l₁₁ 0) ∷ ‵ (froom tyUnit l₁₂ 0) ∷ ‵ (froom again′ l₁₃ 0) ∷ ‵ (froom (sliceTy again′) l₁₄ 0) ∷ ‵ (froom again l₁₅ 0) ∷ ‵ (froom (sliceTy again) l₁₆ 0) ∷ ‵ (froom again l₁₇ 0) ∷ ‵ (froom (sliceTy again) l₁₈ 0) ∷ Frame
 
-    -- once it is known what the devices leave the line at, once the master was told, and once the devices have taken the stretch
+    -- once the level of event k is known, and once the devices have taken it
     abbrev Known : ℕ → List (Item 𝓤)
-    Known k = ‵ Image ∷ ‵ (flft κ q) ∷ ‵ (Codes (st k .codes)) ∷ ‵ (flft κ₁ q₁) ∷ ‵ (Trace (st k .trace)) ∷ ‵ (flft κ₂ q₂) ∷ ‵ (Lines (st k .lines)) ∷ ‵ (flft κ₃ q₃) ∷ ‵ (fat fullShare P′.mir l₅ 0 (machP (st k .step))) ∷ ‵ (fat fullShare (tyInt w64) l₆ 0 (vint w64 k)) ∷ ‵ (fat fullShare (tyInt w8) l₇ 0 (vint w8 (v k))) ∷ ‵ (fat fullShare (tyInt w64) l₈ 0 (vint w64 (ah k))) ∷ ‵ (froom T′.mir l₉ 0) ∷ ‵ (froom (tyInt w64) l₁₀ 0) ∷ ‵ (froom tyBool l₁₁ 0) ∷ ‵ (froom shared′ l₁₂ 0) ∷ ‵ (froom (sliceTy shared′) l₁₃ 0) ∷ ‵ (froom again l₁₄ 0) ∷ ‵ (froom (sliceTy again) l₁₅ 0) ∷ ‵ (froom again l₁₆ 0) ∷ ‵ (froom (sliceTy again) l₁₇ 0) ∷ ‵ (froom tyUnit l₁₈ 0) ∷ ‵ (froom again′ l₁₉ 0) ∷ ‵ (froom (sliceTy again′) l₂₀ 0) ∷ ‵ (froom (tyInt w64) l₂₁ 0) ∷ Frame
+    Known k = ‵ Image ∷ ‵ (flft κ q) ∷ ‵ (Codes (st k .codes)) ∷ ‵ (flft κ₁ q₁) ∷ ‵ (Trace (st k .trace)) ∷ ‵ (flft κ₂ q₂) ∷ ‵ (Lines (st k .lines)) ∷ ‵ (flft κ₃ q₃) ∷ ‵ (fat fullShare P′.mir l₅ 0 (machP (st k .step))) ∷ ‵ (fat fullShare (tyInt w64) l₆ 0 (vint w64 k)) ∷ ‵ (fat fullShare (tyInt w8) l₇ 0 (vint w8 (v k))) ∷ ‵ (fat fullShare tyBool l₈ 0 (vbool (lv k))) ∷ ‵ (froom tyBool l₉ 0) ∷ ‵ (froom shared′ l₁₀ 0) ∷ ‵ (froom (sliceTy shared′) l₁₁ 0) ∷ ‵ (froom tyUnit l₁₂ 0) ∷ ‵ (froom again′ l₁₃ 0) ∷ ‵ (froom (sliceTy again′) l₁₄ 0) ∷ ‵ (froom again l₁₅ 0) ∷ ‵ (froom (sliceTy again) l₁₆ 0) ∷ ‵ (froom again l₁₇ 0) ∷ ‵ (froom (sliceTy again) l₁₈ 0) ∷ Frame
 
-    abbrev Tells : ℕ → List (Item 𝓤)
-    Tells k = ‵ Image ∷ ‵ (flft κ q) ∷ ‵ (Codes (st (on k) .codes)) ∷ ‵ (flft κ₁ q₁) ∷ ‵ (Trace (st (on k) .trace)) ∷ ‵ (flft κ₂ q₂) ∷ ‵ (Lines (st k .lines)) ∷ ‵ (flft κ₃ q₃) ∷ ‵ (fat fullShare P′.mir l₅ 0 (machP (st k .step))) ∷ ‵ (fat fullShare (tyInt w64) l₆ 0 (vint w64 k)) ∷ ‵ (fat fullShare (tyInt w8) l₇ 0 (vint w8 (v k))) ∷ ‵ (froom (tyInt w64) l₈ 0) ∷ ‵ (fat fullShare T′.mir l₉ 0 (machT (td k))) ∷ ‵ (fat fullShare (tyInt w64) l₁₀ 0 (vint w64 (str k))) ∷ ‵ (froom tyBool l₁₁ 0) ∷ ‵ (froom shared′ l₁₂ 0) ∷ ‵ (froom (sliceTy shared′) l₁₃ 0) ∷ ‵ (froom again l₁₄ 0) ∷ ‵ (froom (sliceTy again) l₁₅ 0) ∷ ‵ (froom again l₁₆ 0) ∷ ‵ (froom (sliceTy again) l₁₇ 0) ∷ ‵ (froom tyUnit l₁₈ 0) ∷ ‵ (froom again′ l₁₉ 0) ∷ ‵ (froom (sliceTy again′) l₂₀ 0) ∷ ‵ (froom (tyInt w64) l₂₁ 0) ∷ Frame
-
-    abbrev Gives : ℕ → List (Item 𝓤)
-    Gives k = ‵ Image ∷ ‵ (flft κ q) ∷ ‵ (Codes (st (on k) .codes)) ∷ ‵ (flft κ₁ q₁) ∷ ‵ (Trace (st (on k) .trace)) ∷ ‵ (flft κ₂ q₂) ∷ ‵ (Lines (st (on k) .lines)) ∷ ‵ (flft κ₃ q₃) ∷ ‵ (fat fullShare P′.mir l₅ 0 (machP (st k .step))) ∷ ‵ (fat fullShare (tyInt w64) l₆ 0 (vint w64 k)) ∷ ‵ (froom (tyInt w8) l₇ 0) ∷ ‵ (froom (tyInt w64) l₈ 0) ∷ ‵ (fat fullShare T′.mir l₉ 0 (machT (td k))) ∷ ‵ (fat fullShare (tyInt w64) l₁₀ 0 (vint w64 (str k))) ∷ ‵ (froom tyBool l₁₁ 0) ∷ ‵ (froom shared′ l₁₂ 0) ∷ ‵ (froom (sliceTy shared′) l₁₃ 0) ∷ ‵ (froom again l₁₄ 0) ∷ ‵ (froom (sliceTy again) l₁₅ 0) ∷ ‵ (froom again l₁₆ 0) ∷ ‵ (froom (sliceTy again) l₁₇ 0) ∷ ‵ (froom tyUnit l₁₈ 0) ∷ ‵ (froom again′ l₁₉ 0) ∷ ‵ (froom (sliceTy again′) l₂₀ 0) ∷ ‵ (froom (tyInt w64) l₂₁ 0) ∷ Frame
+    abbrev Stepped : ℕ → List (Item 𝓤)
+    Stepped k = ‵ Image ∷ ‵ (flft κ q) ∷ ‵ (Codes (st k .codes)) ∷ ‵ (flft κ₁ q₁) ∷ ‵ (Trace (st k .trace)) ∷ ‵ (flft κ₂ q₂) ∷ ‵ (Lines (st (suc k) .lines)) ∷ ‵ (flft κ₃ q₃) ∷ ‵ (fat fullShare P′.mir l₅ 0 (machP (st k .step))) ∷ ‵ (fat fullShare (tyInt w64) l₆ 0 (vint w64 k)) ∷ ‵ (fat fullShare (tyInt w8) l₇ 0 (vint w8 (v k))) ∷ ‵ (fat fullShare tyBool l₈ 0 (vbool (lv k))) ∷ ‵ (froom tyBool l₉ 0) ∷ ‵ (froom shared′ l₁₀ 0) ∷ ‵ (froom (sliceTy shared′) l₁₁ 0) ∷ ‵ (froom tyUnit l₁₂ 0) ∷ ‵ (froom again′ l₁₃ 0) ∷ ‵ (froom (sliceTy again′) l₁₄ 0) ∷ ‵ (froom again l₁₅ 0) ∷ ‵ (froom (sliceTy again) l₁₆ 0) ∷ ‵ (froom again l₁₇ 0) ∷ ‵ (froom (sliceTy again) l₁₈ 0) ∷ Frame
 
     -- the master's step as a machine value
     abbrev Shown : ℕ → Type 0
     Shown k = Is Q (st k .step) (machP (st k .step) ∷ [])
-
-    abbrev ShownTold : ℕ → Type 0
-    ShownTold k = Is U (td k) (machT (td k) ∷ [])
 
     -- the invariant, where t events are left
     abbrev Inv : ℕ → SProp 𝓤
@@ -411,53 +327,87 @@ module _ {M : Type 1} (𝓤 : URA M) (H : Heap 𝓤) (A : Atoms 𝓤) (W : Given
     abbrev Left : Out → SProp 𝓤
     Left = afterBlock 𝓤 H (afterSeq 𝓤 H (Wp 𝓤 H C Λ En mir.t-4 (atReturn 𝓤 H En Post)) (atReturn 𝓤 H En Post))
 
-    -- the last part of a turn: the step is the master's, and the events are counted
-    counts : (k : ℕ) (X : SProp 𝓤) → ShownTold k → str k < 2 ^ 64 → k < n → (Shown (on k) → ent 𝓤 (⋆ 𝓤 H A (At (on k))) X)
-        → Sq W (Gives k) (runs C Λ En (rest-of (rest-of (rest-of (rest-of (rest-of (rest-of (rest-of (rest-of (rest-of (rest-of (rest-of (rest-of (rest-of (rest-of (rest-of mir.turn-1))))))))))))))) (anyQ (afterTurn 𝓤 H X Left)))
-    unfolding afterTurn
-    counts k X is str-fits small next =
-        -- `step_in`
-        use0 W (raw (StepIn 𝓤 H A mem run .pre (to-step k))) (goes-step k is) $
-        calls-at ! fm (StepIn 𝓤 H A mem run) known-step (to-step k) (and-then ! (load ! (from ! (stop !)) (look ! 13 refl)) (no-more !)) (λ w.
-        use1 W (later (some (λ (r : Step). (‵ ftrue ⊛ ‵ (Q .own r (w ∷ []))) ⊛ raw (ensured 𝓤 H A step-in.ended (step-in.clauses 𝓤 H A mem run) tt (td k, tt) tt r)))) (id⊢ 𝓤 _) $
+    -- the last part of a turn: the event is written, the master steps, and a completed code is stored
+    written : (k : ℕ) (X : SProp 𝓤) → Shown k → v k < 2 ^ 8 → k < n → (Shown (suc k) → ent 𝓤 (⋆ 𝓤 H A (At (suc k))) X)
+        → Sq W (Stepped k) (runs C Λ En (rest-of (rest-of (rest-of (rest-of (rest-of (rest-of (rest-of (rest-of (rest-of mir.turn-1))))))))) (anyQ (afterTurn 𝓤 H X Left)))
+    unfolding afterTurn exchanges
+    written k X is v-fits small next =
+        assigns ! (addr ! (from ! (fld ! refl (hop ! (look-in ! 23 (sub ! 0 refl (whole !))) (stop !))))) (from ! (stop !)) (init ! 18 refl (tt, tt)) $
+        assigns ! (agg ! (and-then ! (load ! (from ! (stop !)) (look ! 18 refl)) (and-then ! (load ! (from ! (fld ! refl (stop !))) (look-in ! 23 (sub ! 1 refl (whole !)))) (no-more !)))) (from ! (stop !)) (init ! 19 refl (tt, (tt, (record { fits = room₁ .0 }, tt)))) $
+        assigns ! (addr ! (from ! (fld ! refl (hop ! (look-in ! 24 (sub ! 0 refl (whole !))) (stop !))))) (from ! (stop !)) (init ! 20 refl (tt, tt)) $
+        assigns ! (agg ! (and-then ! (load ! (from ! (stop !)) (look ! 20 refl)) (and-then ! (load ! (from ! (fld ! refl (stop !))) (look-in ! 24 (sub ! 1 refl (whole !)))) (no-more !)))) (from ! (stop !)) (init ! 21 refl (tt, (tt, (record { fits = room₂ .0 }, tt)))) $
+        lft-new ! tt (λ ν.
+        lft-new ! tt (λ ν′.
+        move ! (4 ∷ 5 ∷ []) $
+        use2 W (later (some (λ (δ : GName). ‵ (MutSlice (named 0) (ν ∷ []) u8 .own (x₁ δ (st k .codes)) (s₁ ∷ [])) ⊛ ‵ (LentAgain u8 κ₁ (ν ∷ []) q₁ γ₁ b₁ o₁ δ (st k .codes)))))
+        (lends-kept u8 κ₁ (ν ∷ []) q₁ γ₁ b₁ o₁ 𝓤 H A W (named 1) (named 0) (st k .codes) (length codes) (codes-length im k entry)) $
+        await ! tt $ pick ! (λ δ. split ! $
+        move ! (6 ∷ 7 ∷ []) $
+        use2 W (later (some (λ (δ′ : GName). ‵ (MutSlice (named 1) (ν′ ∷ []) u8 .own (x₂ δ′ (st k .trace)) (s₂ ∷ [])) ⊛ ‵ (LentAgain u8 κ₂ (ν′ ∷ []) q₂ γ₂ b₂ o₂ δ′ (st k .trace)))))
+        (lends-kept u8 κ₂ (ν′ ∷ []) q₂ γ₂ b₂ o₂ 𝓤 H A W (named 2) (named 1) (st k .trace) (length trace) (trace-length im k entry)) $
+        await ! tt $ pick ! (λ δ′. split ! $
+        move ! (2 ∷ 0 ∷ []) $
+        join ! $
+        move ! (4 ∷ 3 ∷ []) $
+        join ! $
+        use2 W (raw (Next 𝓤 H A mem run .pre (to-next k ν ν′ δ δ′))) (goes-next k ν ν′ δ δ′ is v-fits k-fits) $
+        calls-at ! fm (Next 𝓤 H A mem run) known-next (to-next k ν ν′ δ δ′) (and-then ! (load ! (from ! (stop !)) (look ! 18 refl)) (and-then ! (load ! (from ! (stop !)) (look ! 20 refl)) (and-then ! (load ! (from ! (stop !)) (look ! 8 refl)) (and-then ! (load ! (from ! (stop !)) (look ! 7 refl)) (and-then ! (load ! (from ! (stop !)) (look ! 9 refl)) (and-then ! (load ! (from ! (stop !)) (look ! 10 refl)) (no-more !))))))) (λ w.
+        use1 W (later (some (λ (r : Step). ((‵ (flft (ν ∷ []) fullShare) ⊛ ‵ (flft (ν′ ∷ []) fullShare) ⊛ ‵ ftrue) ⊛ ‵ (Q .own r (w ∷ []))) ⊛ raw (ensured 𝓤 H A next-step.ended (next-step.clauses 𝓤 H A mem run) (ν ∷ [], (ν′ ∷ [], tt)) (next-args k δ δ′) tt r)))) (id⊢ 𝓤 _) $
         await ! tt $ pick ! (λ r. split ! $
         move ! (1 ∷ []) $
-        use1 W (raw (fact 𝓤 (r ≡ td k .step))) (step-of k r) $ heard ! (r ≡ td k .step) (λ e.
-        split ! $
-        drop ! $
-        rewrite ! 0 (λ (h : Step). ‵ (Q .own h (w ∷ []))) (e ∙ turned k small .step-is) refl $
-        peeks ! Q (Is Q) (shows 𝓤 H A Q) (st (on k) .step) (w ∷ []) (λ got.
-        land ! (from ! (stop !)) (store ! 9 refl (typedP 𝓤 H A W (st (on k) .step) w got)) $
-        rewrite ! 9 (λ (u : Val). ‵ (fat fullShare P′.mir l₅ 0 u)) (ap only (tellsP (st (on k) .step) (w ∷ []) got)) refl $
-        drop ! $
-        -- `stretch_length`
-        use0 W (raw (Length 𝓤 H A mem run .pre (to-length k))) (goes-length k str-fits) $
-        calls-at ! fm (Length 𝓤 H A mem run) known-length (to-length k) (and-then ! (load ! (from ! (stop !)) (look ! 14 refl)) (no-more !)) (λ w′.
-        use1 W (later (some (λ (r′ : ℕ). (‵ ftrue ⊛ ‵ (usize .own r′ (w′ ∷ []))) ⊛ raw (ensured 𝓤 H A stretch-length.ended (stretch-length.clauses 𝓤 H A mem run) tt (str k, tt) tt r′)))) (id⊢ 𝓤 _) $
-        await ! tt $ pick ! (λ r′. split ! $
+        use1 W (some (λ (ls : List ℕ × (List ℕ × (Unit {0} × (Unit {0} × (Unit {0} × (Unit {0} × Unit {0})))))). ‵ (lasts next-step.ended (ν ∷ [], (ν′ ∷ [], tt)) (next-args k δ δ′) ls) ⊛ raw (fact 𝓤 ((r ≡ st (suc k) .step) × (ls .0 ≡ st (suc k) .codes) × (ls .1 .0 ≡ st (suc k) .trace))))) (id⊢ 𝓤 _) $
+        pick ! (λ ls. split ! $
         move ! (1 ∷ []) $
-        use1 W (raw (fact 𝓤 (r′ ≡ countIn (str k)))) (length-of k r′) $ heard ! (r′ ≡ countIn (str k)) (λ e′.
+        heard ! ((r ≡ st (suc k) .step) × (ls .0 ≡ st (suc k) .codes) × (ls .1 .0 ≡ st (suc k) .trace)) (λ said.
+        fsplit ! $
+        fsplit ! $
+        move ! (1 ∷ []) $
+        feqL ! (λ len.
+        move ! (1 ∷ []) $
+        fsplit ! $
+        fsplit ! $
+        move ! (1 ∷ []) $
+        feqL ! (λ len′.
+        move ! (3 ∷ []) $
         split ! $
+        move ! (1 ∷ []) $
+        rewrite ! 0 (λ (h : Step). ‵ (Q .own h (w ∷ []))) (said .0) refl $
+        peeks ! Q (Is Q) (shows 𝓤 H A Q) (st (suc k) .step) (w ∷ []) (λ got.
+        land ! (from ! (stop !)) (store ! 11 refl (typedP 𝓤 H A W (st (suc k) .step) w got)) $
+        rewrite ! 11 (λ (u : Val). ‵ (fat fullShare P′.mir l₅ 0 u)) (ap only (tellsP (st (suc k) .step) (w ∷ []) got)) refl $
         drop ! $
-        peeks ! usize (Is usize) (shows 𝓤 H A usize) r′ (w′ ∷ []) (λ got′.
-        land ! (from ! (stop !)) (init ! 25 refl (uint-lawful 𝓤 H A W w64 .typed r′ _ got′ .0)) $
-        rewrite ! 25 (λ (u : Val). ‵ (fat fullShare (tyInt w64) l₂₁ 0 u)) (ap only (got′ .0)) refl $
-        rewrite ! 25 (λ (m : ℕ). ‵ (fat fullShare (tyInt w64) l₂₁ 0 (vint w64 m))) (e′) refl $
-        drop ! $
-        assigns-last ! (bin ! (load ! (from ! (stop !)) (look ! 9 refl)) (load ! (from ! (stop !)) (look ! 24 refl)) (record { fits = on-fits })) (from ! (stop !)) (store ! 9 refl (tt, record { fits = on-fits })) $
-        forget ! 12 refl $ forget ! 13 refl $ forget ! 24 refl $
-        by ! (next (spelledP (st (on k) .step) w got))))))))))
+        split ! $
+        lft-end ! tt $
+        move ! (0 ∷ 6 ∷ 4 ∷ []) $
+        use3 W (later (‵ (Codes (ls .0)) ⊛ ‵ (flft κ₁ q₁))) (back-kept u8 κ₁ (ν ∷ []) q₁ γ₁ b₁ o₁ 𝓤 H A W (named 1) (named 0) (st k .codes) (length codes) (codes-length im k entry) δ (ls .0) room₁ len) $
+        await ! tt $ split ! $
+        rewrite ! 0 (λ (us : List ℕ). ‵ (Codes us)) (said .1) refl $
+        move ! (2 ∷ []) $
+        split ! $
+        lft-end ! tt $
+        move ! (0 ∷ 6 ∷ 4 ∷ []) $
+        use3 W (later (‵ (Trace (ls .1 .0)) ⊛ ‵ (flft κ₂ q₂))) (back-kept u8 κ₂ (ν′ ∷ []) q₂ γ₂ b₂ o₂ 𝓤 H A W (named 2) (named 1) (st k .trace) (length trace) (trace-length im k entry) δ′ (ls .1 .0) room₂ len′) $
+        await ! tt $ split ! $
+        rewrite ! 0 (λ (us : List ℕ). ‵ (Trace us)) (said .2) refl $
+        assigns-last ! (bin ! (load ! (from ! (stop !)) (look ! 11 refl)) (lit ! tt) (record { fits = next-fits })) (from ! (stop !)) (store ! 11 refl (tt, record { fits = next-fits })) $
+        rewrite ! 11 (λ (j : ℕ). ‵ (fat fullShare (tyInt w64) l₆ 0 (vint w64 j))) (one-more k) refl $
+        forget ! 12 refl $ forget ! 13 refl $ forget ! 20 refl $ forget ! 21 refl $ forget ! 22 refl $ forget ! 23 refl $
+        keep ! (6 ∷ 7 ∷ 3 ∷ 4 ∷ 0 ∷ 1 ∷ 8 ∷ 9 ∷ 10 ∷ 11 ∷ 12 ∷ 13 ∷ 14 ∷ 15 ∷ 16 ∷ 17 ∷ 18 ∷ 19 ∷ 20 ∷ 21 ∷ 22 ∷ 23 ∷ 24 ∷ 25 ∷ 26 ∷ 27 ∷ 28 ∷ 29 ∷ 30 ∷ 31 ∷ 32 ∷ 33 ∷ 34 ∷ 35 ∷ 36 ∷ 37 ∷ 38 ∷ 39 ∷ 40 ∷ 41 ∷ 42 ∷ 43 ∷ 44 ∷ 45 ∷ 46 ∷ 47 ∷ []) $
+        by ! (next (spelledP (st (suc k) .step) w got)))))))))))))
       where
-        on-fits : on k < 2 ^ 64
-        on-fits = omega (arith, turned k small .within, n-fits)
+        next-fits : k + 1 < 2 ^ 64
+        next-fits = fits-next k n n-fits small
 
-    -- the third part: the devices take the stretch
-    gives : (k : ℕ) (X : SProp 𝓤) → ShownTold k → v k < 2 ^ 8 → str k < 2 ^ 64 → k < n → (Shown (on k) → ent 𝓤 (⋆ 𝓤 H A (At (on k))) X)
-        → Sq W (Tells k) (runs C Λ En (rest-of (rest-of (rest-of (rest-of (rest-of (rest-of (rest-of (rest-of (rest-of (rest-of (rest-of (rest-of mir.turn-1)))))))))))) (anyQ (afterTurn 𝓤 H X Left)))
-    unfolding afterTurn
-    gives k X is v-fits str-fits small next =
-        assigns ! (addr ! (from ! (fld ! refl (hop ! (look-in ! 28 (sub ! 0 refl (whole !))) (stop !))))) (from ! (stop !)) (init ! 22 refl (tt, tt)) $
-        assigns ! (agg ! (and-then ! (load ! (from ! (stop !)) (look ! 22 refl)) (and-then ! (load ! (from ! (fld ! refl (stop !))) (look-in ! 28 (sub ! 1 refl (whole !)))) (no-more !)))) (from ! (stop !)) (init ! 23 refl (tt, (tt, (record { fits = room₃ .0 }, tt)))) $
+        k-fits : k < 2 ^ 64
+        k-fits = omega (arith, next-fits)
+
+    -- the second part: the devices take the event
+    stepped : (k : ℕ) (X : SProp 𝓤) → Shown k → v k < 2 ^ 8 → k < n → (Shown (suc k) → ent 𝓤 (⋆ 𝓤 H A (At (suc k))) X)
+        → Sq W (Known k) (runs C Λ En (rest-of (rest-of (rest-of (rest-of (rest-of (rest-of mir.turn-1)))))) (anyQ (afterTurn 𝓤 H X Left)))
+    unfolding afterTurn exchanges
+    stepped k X is v-fits small next =
+        assigns ! (addr ! (from ! (fld ! refl (hop ! (look-in ! 25 (sub ! 0 refl (whole !))) (stop !))))) (from ! (stop !)) (init ! 16 refl (tt, tt)) $
+        assigns ! (agg ! (and-then ! (load ! (from ! (stop !)) (look ! 16 refl)) (and-then ! (load ! (from ! (fld ! refl (stop !))) (look-in ! 25 (sub ! 1 refl (whole !)))) (no-more !)))) (from ! (stop !)) (init ! 17 refl (tt, (tt, (record { fits = room₃ .0 }, tt)))) $
         lft-new ! tt (λ ν.
         move ! (7 ∷ 8 ∷ []) $
         use2 W (later (some (λ (δ : GName). ‵ (MutSlice (named 1) (ν ∷ []) R .own (x₃ δ (st k .lines)) (s₃ ∷ [])) ⊛ ‵ (LentAgain R κ₃ (ν ∷ []) q₃ γ₃ b₃ o₃ δ (st k .lines)))))
@@ -469,15 +419,15 @@ module _ {M : Type 1} (𝓤 : URA M) (H : Heap 𝓤) (A : Atoms 𝓤) (W : Given
         join ! $
         move ! (4 ∷ 3 ∷ []) $
         join ! $
-        use2 W (raw (StepsAll 𝓤 H A mem run .pre (to-steps k ν δ))) (goes-steps k ν δ v-fits str-fits) $
-        calls-at ! fm (StepsAll 𝓤 H A mem run) known-steps (to-steps k ν δ) (and-then ! (load ! (from ! (stop !)) (look ! 24 refl)) (and-then ! (load ! (from ! (stop !)) (look ! 22 refl)) (and-then ! (load ! (from ! (stop !)) (look ! 9 refl)) (and-then ! (load ! (from ! (stop !)) (look ! 12 refl)) (no-more !))))) (λ w.
-        use1 W (later (some (λ (r : Unit {0}). ((‵ (flft κ q) ⊛ ‵ (flft (ν ∷ []) fullShare) ⊛ ‵ ftrue) ⊛ ‵ (unit .own r (w ∷ []))) ⊛ raw (ensured 𝓤 H A steps-all.ended (steps-all.clauses 𝓤 H A mem run) (κ, (ν ∷ [], tt)) (steps-args k δ) tt r)))) (id⊢ 𝓤 _) $
+        use2 W (raw (StepAll 𝓤 H A mem run .pre (to-step k ν δ))) (goes-step k ν δ v-fits) $
+        calls-at ! fm (StepAll 𝓤 H A mem run) known-step (to-step k ν δ) (and-then ! (load ! (from ! (stop !)) (look ! 21 refl)) (and-then ! (load ! (from ! (stop !)) (look ! 16 refl)) (and-then ! (load ! (from ! (stop !)) (look ! 9 refl)) (and-then ! (load ! (from ! (stop !)) (look ! 10 refl)) (no-more !))))) (λ w.
+        use1 W (later (some (λ (r : Unit {0}). ((‵ (flft κ q) ⊛ ‵ (flft (ν ∷ []) fullShare) ⊛ ‵ ftrue) ⊛ ‵ (unit .own r (w ∷ []))) ⊛ raw (ensured 𝓤 H A step-all.ended (step-all.clauses 𝓤 H A mem run) (κ, (ν ∷ [], tt)) (step-args k δ) tt r)))) (id⊢ 𝓤 _) $
         await ! tt $ pick ! (λ r. split ! $
         move ! (1 ∷ []) $
-        use1 W (some (λ (ls : Unit {0} × (List LineState × (Unit {0} × (Unit {0} × Unit {0})))). ‵ (lasts steps-all.ended (κ, (ν ∷ [], tt)) (steps-args k δ) ls) ⊛ raw (fact 𝓤 (ls .1 .0 ≡ statesGiven im (st k .lines) (v k) (str k))))) (id⊢ 𝓤 _) $
+        use1 W (some (λ (ls : Unit {0} × (List LineState × (Unit {0} × (Unit {0} × Unit {0})))). ‵ (lasts step-all.ended (κ, (ν ∷ [], tt)) (step-args k δ) ls) ⊛ raw (fact 𝓤 (ls .1 .0 ≡ st (suc k) .lines)))) (id⊢ 𝓤 _) $
         pick ! (λ ls. split ! $
         move ! (1 ∷ []) $
-        heard ! (ls .1 .0 ≡ statesGiven im (st k .lines) (v k) (str k)) (λ said.
+        heard ! (ls .1 .0 ≡ st (suc k) .lines) (λ said.
         fsplit ! $
         move ! (1 ∷ []) $
         fsplit ! $
@@ -488,7 +438,7 @@ module _ {M : Type 1} (𝓤 : URA M) (H : Heap 𝓤) (A : Atoms 𝓤) (W : Given
         split ! $
         move ! (1 ∷ []) $
         feqL ! (λ got.
-        land ! (from ! (stop !)) (init ! 23 refl (unit-typed w got)) $
+        land ! (from ! (stop !)) (init ! 17 refl (unit-typed w got)) $
         split ! $
         move ! (1 ∷ []) $
         split ! $
@@ -496,109 +446,13 @@ module _ {M : Type 1} (𝓤 : URA M) (H : Heap 𝓤) (A : Atoms 𝓤) (W : Given
         move ! (0 ∷ 7 ∷ 3 ∷ []) $
         use3 W (later (‵ (Lines (ls .1 .0)) ⊛ ‵ (flft κ₃ q₃))) (back-kept R κ₃ (ν ∷ []) q₃ γ₃ b₃ o₃ 𝓤 H A W (named 3) (named 1) (st k .lines) (length ys) (lines-length im k entry) δ (ls .1 .0) room₃ len) $
         await ! tt $ split ! $
-        rewrite ! 0 (λ (us : List LineState). ‵ (Lines us)) (said ∙ turned k small .lines-are) refl $
-        forget ! 13 refl $ forget ! 24 refl $ forget ! 25 refl $ forget ! 26 refl $
-        keep ! (6 ∷ 3 ∷ 7 ∷ 8 ∷ 9 ∷ 10 ∷ 0 ∷ 1 ∷ 11 ∷ 12 ∷ 13 ∷ 14 ∷ 15 ∷ 16 ∷ 17 ∷ 18 ∷ 19 ∷ 20 ∷ 21 ∷ 22 ∷ 23 ∷ 24 ∷ 25 ∷ 26 ∷ 27 ∷ 28 ∷ 29 ∷ 30 ∷ 31 ∷ 32 ∷ 33 ∷ 34 ∷ 35 ∷ 36 ∷ 37 ∷ 38 ∷ 39 ∷ 40 ∷ 41 ∷ 42 ∷ 43 ∷ 44 ∷ 45 ∷ 46 ∷ 47 ∷ 48 ∷ 49 ∷ 50 ∷ 51 ∷ 52 ∷ 53 ∷ 54 ∷ []) $
-        counts k X is str-fits small next))))))))
+        rewrite ! 0 (λ (us : List LineState). ‵ (Lines us)) (said) refl $
+        forget ! 18 refl $ forget ! 19 refl $ forget ! 20 refl $
+        keep ! (6 ∷ 3 ∷ 7 ∷ 8 ∷ 9 ∷ 10 ∷ 0 ∷ 1 ∷ 11 ∷ 12 ∷ 13 ∷ 14 ∷ 15 ∷ 16 ∷ 17 ∷ 18 ∷ 19 ∷ 20 ∷ 21 ∷ 22 ∷ 23 ∷ 24 ∷ 25 ∷ 26 ∷ 27 ∷ 28 ∷ 29 ∷ 30 ∷ 31 ∷ 32 ∷ 33 ∷ 34 ∷ 35 ∷ 36 ∷ 37 ∷ 38 ∷ 39 ∷ 40 ∷ 41 ∷ 42 ∷ 43 ∷ 44 ∷ 45 ∷ 46 ∷ 47 ∷ 48 ∷ []) $
+        written k X is v-fits small next))))))))
 
-    -- the second part: the master is told
-    tells : (k : ℕ) (X : SProp 𝓤) → Shown k → v k < 2 ^ 8 → ah k < 2 ^ 64 → k < n → (Shown (on k) → ent 𝓤 (⋆ 𝓤 H A (At (on k))) X)
-        → Sq W (Known k) (runs C Λ En (rest-of (rest-of (rest-of (rest-of (rest-of (rest-of mir.turn-1)))))) (anyQ (afterTurn 𝓤 H X Left)))
-    unfolding afterTurn
-    tells k X is v-fits ah-fits small next =
-        assigns ! (addr ! (from ! (fld ! refl (hop ! (look-in ! 26 (sub ! 0 refl (whole !))) (stop !))))) (from ! (stop !)) (init ! 17 refl (tt, tt)) $
-        assigns ! (agg ! (and-then ! (load ! (from ! (stop !)) (look ! 17 refl)) (and-then ! (load ! (from ! (fld ! refl (stop !))) (look-in ! 26 (sub ! 1 refl (whole !)))) (no-more !)))) (from ! (stop !)) (init ! 18 refl (tt, (tt, (record { fits = room₁ .0 }, tt)))) $
-        assigns ! (addr ! (from ! (fld ! refl (hop ! (look-in ! 27 (sub ! 0 refl (whole !))) (stop !))))) (from ! (stop !)) (init ! 19 refl (tt, tt)) $
-        assigns ! (agg ! (and-then ! (load ! (from ! (stop !)) (look ! 19 refl)) (and-then ! (load ! (from ! (fld ! refl (stop !))) (look-in ! 27 (sub ! 1 refl (whole !)))) (no-more !)))) (from ! (stop !)) (init ! 20 refl (tt, (tt, (record { fits = room₂ .0 }, tt)))) $
-        lft-new ! tt (λ ν.
-        lft-new ! tt (λ ν′.
-        move ! (4 ∷ 5 ∷ []) $
-        use2 W (later (some (λ (δ : GName). ‵ (MutSlice (named 1) (ν ∷ []) u8 .own (x₁ δ (st k .codes)) (s₁ ∷ [])) ⊛ ‵ (LentAgain u8 κ₁ (ν ∷ []) q₁ γ₁ b₁ o₁ δ (st k .codes)))))
-        (lends-kept u8 κ₁ (ν ∷ []) q₁ γ₁ b₁ o₁ 𝓤 H A W (named 1) (named 1) (st k .codes) (length codes) (codes-length im k entry)) $
-        await ! tt $ pick ! (λ δ. split ! $
-        move ! (6 ∷ 7 ∷ []) $
-        use2 W (later (some (λ (δ′ : GName). ‵ (MutSlice (named 2) (ν′ ∷ []) u8 .own (x₂ δ′ (st k .trace)) (s₂ ∷ [])) ⊛ ‵ (LentAgain u8 κ₂ (ν′ ∷ []) q₂ γ₂ b₂ o₂ δ′ (st k .trace)))))
-        (lends-kept u8 κ₂ (ν′ ∷ []) q₂ γ₂ b₂ o₂ 𝓤 H A W (named 2) (named 2) (st k .trace) (length trace) (trace-length im k entry)) $
-        await ! tt $ pick ! (λ δ′. split ! $
-        move ! (2 ∷ 0 ∷ []) $
-        join ! $
-        move ! (5 ∷ []) $
-        use1 W (‵ Image ⊛ ‵ Image) (shr-slice-copy 𝓤 H A W (named 0) κ u8 .twice x (s ∷ [])) $ split ! $
-        move ! (1 ∷ 2 ∷ []) $
-        join ! $
-        move ! (5 ∷ 4 ∷ []) $
-        join ! $
-        move ! (5 ∷ 0 ∷ []) $
-        join ! $
-        use2 W (raw (Tell 𝓤 H A mem run .pre (to-tell k ν ν′ δ δ′))) (goes-tell k ν ν′ δ δ′ is k-few k-fits ah-fits) $
-        calls-at ! fm (Tell 𝓤 H A mem run) known-tell (to-tell k ν ν′ δ δ′) (and-then ! (load ! (from ! (stop !)) (look ! 23 refl)) (and-then ! (load ! (from ! (stop !)) (look ! 16 refl)) (and-then ! (load ! (from ! (stop !)) (look ! 18 refl)) (and-then ! (load ! (from ! (stop !)) (look ! 7 refl)) (and-then ! (load ! (from ! (stop !)) (look ! 6 refl)) (and-then ! (load ! (from ! (stop !)) (look ! 9 refl)) (no-more !))))))) (λ w.
-        use1 W (later (some (λ (r : Told). ((‵ (flft κ q) ⊛ ‵ (flft (ν ∷ []) fullShare) ⊛ ‵ (flft (ν′ ∷ []) fullShare) ⊛ ‵ ftrue) ⊛ ‵ (U .own r (w ∷ []))) ⊛ raw (ensured 𝓤 H A tell.ended (tell.clauses 𝓤 H A mem run) (κ, (ν ∷ [], (ν′ ∷ [], tt))) (tell-args k δ δ′) tt r)))) (id⊢ 𝓤 _) $
-        await ! tt $ pick ! (λ r. split ! $
-        move ! (1 ∷ []) $
-        use1 W (some (λ (ls : Unit {0} × (List ℕ × (List ℕ × (Unit {0} × (Unit {0} × (Unit {0} × Unit {0})))))). ‵ (lasts tell.ended (κ, (ν ∷ [], (ν′ ∷ [], tt))) (tell-args k δ δ′) ls) ⊛ raw (fact 𝓤 ((r ≡ td k) × (ls .1 .0 ≡ toldCodes im (st k .codes) (st k .step) (ah k)) × (ls .1 .1 .0 ≡ toldTrace im (st k .trace) k (st k .step) (ah k)))))) (id⊢ 𝓤 _) $
-        pick ! (λ ls. split ! $
-        move ! (1 ∷ []) $
-        heard ! ((r ≡ td k) × (ls .1 .0 ≡ toldCodes im (st k .codes) (st k .step) (ah k)) × (ls .1 .1 .0 ≡ toldTrace im (st k .trace) k (st k .step) (ah k))) (λ said.
-        fsplit ! $
-        move ! (1 ∷ []) $
-        fsplit ! $
-        fsplit ! $
-        move ! (1 ∷ []) $
-        feqL ! (λ len.
-        move ! (1 ∷ []) $
-        fsplit ! $
-        fsplit ! $
-        move ! (1 ∷ []) $
-        feqL ! (λ len′.
-        move ! (4 ∷ []) $
-        split ! $
-        move ! (1 ∷ []) $
-        rewrite ! 0 (λ (h : Told). ‵ (U .own h (w ∷ []))) (said .0) refl $
-        peeks ! U (Is U) (shows 𝓤 H A U) (td k) (w ∷ []) (λ got.
-        land ! (from ! (stop !)) (init ! 15 refl (typedT 𝓤 H A W (td k) w got)) $
-        rewrite ! 15 (λ (u : Val). ‵ (fat fullShare T′.mir l₉ 0 u)) (ap only (tellsT (td k) (w ∷ []) got)) refl $
-        drop ! $
-        split ! $
-        move ! (1 ∷ []) $
-        split ! $
-        lft-end ! tt $
-        move ! (0 ∷ 9 ∷ 5 ∷ []) $
-        use3 W (later (‵ (Codes (ls .1 .0)) ⊛ ‵ (flft κ₁ q₁))) (back-kept u8 κ₁ (ν ∷ []) q₁ γ₁ b₁ o₁ 𝓤 H A W (named 1) (named 1) (st k .codes) (length codes) (codes-length im k entry) δ (ls .1 .0) room₁ len) $
-        await ! tt $ split ! $
-        rewrite ! 0 (λ (us : List ℕ). ‵ (Codes us)) (said .1 ∙ turned k small .codes-are) refl $
-        move ! (2 ∷ []) $
-        split ! $
-        lft-end ! tt $
-        move ! (0 ∷ 9 ∷ 5 ∷ []) $
-        use3 W (later (‵ (Trace (ls .1 .1 .0)) ⊛ ‵ (flft κ₂ q₂))) (back-kept u8 κ₂ (ν′ ∷ []) q₂ γ₂ b₂ o₂ 𝓤 H A W (named 2) (named 2) (st k .trace) (length trace) (trace-length im k entry) δ′ (ls .1 .1 .0) room₂ len′) $
-        await ! tt $ split ! $
-        rewrite ! 0 (λ (us : List ℕ). ‵ (Trace us)) (said .2 ∙ turned k small .trace-is) refl $
-        -- `stretch_in`
-        use0 W (raw (Stretch 𝓤 H A mem run .pre (to-stretch k))) (goes-stretch k (spelledT (td k) w got)) $
-        calls-at ! fm (Stretch 𝓤 H A mem run) known-stretch (to-stretch k) (and-then ! (load ! (from ! (stop !)) (look ! 16 refl)) (no-more !)) (λ w′.
-        use1 W (later (some (λ (r′ : ℕ). (‵ ftrue ⊛ ‵ (u64 .own r′ (w′ ∷ []))) ⊛ raw (ensured 𝓤 H A stretch-in.ended (stretch-in.clauses 𝓤 H A mem run) tt (td k, tt) tt r′)))) (id⊢ 𝓤 _) $
-        await ! tt $ pick ! (λ r′. split ! $
-        move ! (1 ∷ []) $
-        use1 W (raw (fact 𝓤 (r′ ≡ str k))) (stretch-of k r′) $ heard ! (r′ ≡ str k) (λ e′.
-        split ! $
-        drop ! $
-        peeks ! u64 (Is u64) (shows 𝓤 H A u64) r′ (w′ ∷ []) (λ got′.
-        land ! (from ! (stop !)) (init ! 17 refl (uint-lawful 𝓤 H A W w64 .typed r′ _ got′ .0)) $
-        rewrite ! 17 (λ (u : Val). ‵ (fat fullShare (tyInt w64) l₁₀ 0 u)) (ap only (got′ .0)) refl $
-        rewrite ! 17 (λ (m : ℕ). ‵ (fat fullShare (tyInt w64) l₁₀ 0 (vint w64 m))) (e′) refl $
-        drop ! $
-        forget ! 14 refl $ forget ! 20 refl $ forget ! 21 refl $ forget ! 22 refl $ forget ! 23 refl $
-        keep ! (8 ∷ 5 ∷ 3 ∷ 4 ∷ 0 ∷ 1 ∷ 9 ∷ 10 ∷ 11 ∷ 12 ∷ 13 ∷ 14 ∷ 15 ∷ 16 ∷ 17 ∷ 18 ∷ 19 ∷ 20 ∷ 21 ∷ 22 ∷ 23 ∷ 24 ∷ 25 ∷ 26 ∷ 27 ∷ 28 ∷ 29 ∷ 30 ∷ 31 ∷ 32 ∷ 33 ∷ 34 ∷ 35 ∷ 36 ∷ 37 ∷ 38 ∷ 39 ∷ 40 ∷ 41 ∷ 42 ∷ 43 ∷ 44 ∷ 45 ∷ 46 ∷ 47 ∷ 48 ∷ 49 ∷ 50 ∷ 51 ∷ 52 ∷ 53 ∷ 54 ∷ []) $
-        gives k X (spelledT (td k) w got) v-fits (subst (λ (m : ℕ). m < 2 ^ 64) e′ (got′ .1)) small next)))))))))))))))
-      where
-        k-few : k < 65536
-        k-few = omega (arith, small, events-few im codes trace ys ready)
-
-        k-fits : k < 2 ^ 64
-        k-fits = omega (arith, k-few)
-
-    -- a turn of one stretch
-    more : (k : ℕ) (X : SProp 𝓤) → Shown k → k < n → (Shown (on k) → ent 𝓤 (⋆ 𝓤 H A (At (on k))) X) → ent 𝓤 (⋆ 𝓤 H A (At k)) (Wp 𝓤 H C Λ En mir.turn-1 (afterTurn 𝓤 H X Left))
+    -- a turn of one exchange
+    more : (k : ℕ) (X : SProp 𝓤) → Shown k → k < n → (Shown (suc k) → ent 𝓤 (⋆ 𝓤 H A (At (suc k))) X) → ent 𝓤 (⋆ 𝓤 H A (At k)) (Wp 𝓤 H C Λ En mir.turn-1 (afterTurn 𝓤 H X Left))
     unfolding afterTurn
     more k X is small next =
         qed W (At k) ∵ exec ! C Λ En mir.turn-1 (anyQ (afterTurn 𝓤 H X Left)) $
@@ -611,12 +465,12 @@ module _ {M : Type 1} (𝓤 : URA M) (H : Heap 𝓤) (A : Atoms 𝓤) (W : Given
         split ! $
         drop ! $
         peeks ! bool (Is bool) (shows 𝓤 H A bool) r (w ∷ []) (λ got.
-        land ! (from ! (stop !)) (init ! 15 refl (bool-lawful 𝓤 H A W .typed r _ got .0)) $
-        rewrite ! 15 (λ (u : Val). ‵ (fat fullShare tyBool l₁₁ 0 u)) (ap only got) refl $
-        rewrite ! 15 (λ (t : Bool). ‵ (fat fullShare tyBool l₁₁ 0 (vbool t))) (e) refl $
+        land ! (from ! (stop !)) (init ! 13 refl (bool-lawful 𝓤 H A W .typed r _ got .0)) $
+        rewrite ! 13 (λ (u : Val). ‵ (fat fullShare tyBool l₉ 0 u)) (ap only got) refl $
+        rewrite ! 13 (λ (t : Bool). ‵ (fat fullShare tyBool l₉ 0 (vbool t))) (e) refl $
         drop ! $
-        rewrite ! 14 (λ (t : Bool). ‵ (fat fullShare tyBool l₁₁ 0 (vbool t))) (goes im codes trace ys ready k small) refl $
-        stays ! (load ! (from ! (stop !)) (look ! 14 refl)) $
+        rewrite ! 12 (λ (t : Bool). ‵ (fat fullShare tyBool l₉ 0 (vbool t))) (goes im codes trace ys ready k small) refl $
+        stays ! (load ! (from ! (stop !)) (look ! 12 refl)) $
         -- `event_in`
         use0 W (raw (In 𝓤 H A mem run .pre (to-in k))) (goes-in k is) $
         calls-at ! fm (In 𝓤 H A mem run) known-in (to-in k) (and-then ! (load ! (from ! (stop !)) (look ! 9 refl)) (no-more !)) (λ w.
@@ -631,9 +485,9 @@ module _ {M : Type 1} (𝓤 : URA M) (H : Heap 𝓤) (A : Atoms 𝓤) (W : Given
         rewrite ! 11 (λ (u : Val). ‵ (fat fullShare (tyInt w8) l₇ 0 u)) (ap only (got .0)) refl $
         rewrite ! 11 (λ (m : ℕ). ‵ (fat fullShare (tyInt w8) l₇ 0 (vint w8 m))) (e) refl $
         drop ! $
-        -- `ahead`: the lines are lent to it as `&`, for a lifetime of the call
-        assigns ! (addr ! (from ! (fld ! refl (hop ! (look-in ! 28 (sub ! 0 refl (whole !))) (stop !))))) (from ! (stop !)) (init ! 15 refl (tt, tt)) $
-        assigns ! (agg ! (and-then ! (load ! (from ! (stop !)) (look ! 15 refl)) (and-then ! (load ! (from ! (fld ! refl (stop !))) (look-in ! 28 (sub ! 1 refl (whole !)))) (no-more !)))) (from ! (stop !)) (init ! 16 refl (tt, (tt, (record { fits = room₃ .0 }, tt)))) $
+        -- `level`: the lines are lent to it as `&`, for a lifetime of the call
+        assigns ! (addr ! (from ! (fld ! refl (hop ! (look-in ! 25 (sub ! 0 refl (whole !))) (stop !))))) (from ! (stop !)) (init ! 13 refl (tt, tt)) $
+        assigns ! (agg ! (and-then ! (load ! (from ! (stop !)) (look ! 13 refl)) (and-then ! (load ! (from ! (fld ! refl (stop !))) (look-in ! 25 (sub ! 1 refl (whole !)))) (no-more !)))) (from ! (stop !)) (init ! 14 refl (tt, (tt, (record { fits = room₃ .0 }, tt)))) $
         lft-new ! tt (λ ν.
         move ! (7 ∷ 8 ∷ []) $
         use2 W (later (some (λ (δ : GName). ‵ (ShrSlice (named 1) (ν ∷ []) R .own (x₃ δ (st k .lines)) (s₃ ∷ [])) ⊛ ‵ (SharedAgain R κ₃ (ν ∷ []) q₃ γ₃ b₃ o₃ (st k .lines)))))
@@ -645,18 +499,18 @@ module _ {M : Type 1} (𝓤 : URA M) (H : Heap 𝓤) (A : Atoms 𝓤) (W : Given
         join ! $
         move ! (4 ∷ 3 ∷ []) $
         join ! $
-        use2 W (raw (Ahead 𝓤 H A mem run .pre (to-ahead k ν δ))) (goes-ahead k ν δ) $
-        calls-at ! fm (Ahead 𝓤 H A mem run) known-ahead (to-ahead k ν δ) (and-then ! (load ! (from ! (stop !)) (look ! 24 refl)) (and-then ! (load ! (from ! (stop !)) (look ! 15 refl)) (no-more !))) (λ w′.
-        use1 W (later (some (λ (r′ : ℕ). ((‵ (flft κ q) ⊛ ‵ (flft (ν ∷ []) fullShare) ⊛ ‵ ftrue) ⊛ ‵ (u64 .own r′ (w′ ∷ []))) ⊛ raw (ensured 𝓤 H A ahead.ended (ahead.clauses 𝓤 H A mem run) (κ, (ν ∷ [], tt)) (ahead-args k δ) tt r′)))) (id⊢ 𝓤 _) $
+        use2 W (raw (Level 𝓤 H A mem run .pre (to-level k ν δ))) (goes-level k ν δ (subst (λ (m : ℕ). m < 2 ^ 8) e (got .1))) $
+        calls-at ! fm (Level 𝓤 H A mem run) known-level (to-level k ν δ) (and-then ! (load ! (from ! (stop !)) (look ! 21 refl)) (and-then ! (load ! (from ! (stop !)) (look ! 13 refl)) (and-then ! (load ! (from ! (stop !)) (look ! 9 refl)) (no-more !)))) (λ w′.
+        use1 W (later (some (λ (r′ : Bool). ((‵ (flft κ q) ⊛ ‵ (flft (ν ∷ []) fullShare) ⊛ ‵ ftrue) ⊛ ‵ (bool .own r′ (w′ ∷ []))) ⊛ raw (ensured 𝓤 H A level.ended (level.clauses 𝓤 H A mem run) (κ, (ν ∷ [], tt)) (level-args k δ) tt r′)))) (id⊢ 𝓤 _) $
         await ! tt $ pick ! (λ r′. split ! $
         move ! (1 ∷ []) $
-        use1 W (raw (fact 𝓤 (r′ ≡ ah k))) (ahead-of k ν δ r′) $ heard ! (r′ ≡ ah k) (λ e′.
+        use1 W (raw (fact 𝓤 (r′ ≡ lv k))) (level-of k ν δ r′) $ heard ! (r′ ≡ lv k) (λ e′.
         split ! $
         move ! (1 ∷ []) $
-        peeks ! u64 (Is u64) (shows 𝓤 H A u64) r′ (w′ ∷ []) (λ got′.
-        land ! (from ! (stop !)) (init ! 11 refl (uint-lawful 𝓤 H A W w64 .typed r′ _ got′ .0)) $
-        rewrite ! 11 (λ (u : Val). ‵ (fat fullShare (tyInt w64) l₈ 0 u)) (ap only (got′ .0)) refl $
-        rewrite ! 11 (λ (m : ℕ). ‵ (fat fullShare (tyInt w64) l₈ 0 (vint w64 m))) (e′) refl $
+        peeks ! bool (Is bool) (shows 𝓤 H A bool) r′ (w′ ∷ []) (λ got′.
+        land ! (from ! (stop !)) (init ! 11 refl (bool-lawful 𝓤 H A W .typed r′ _ got′ .0)) $
+        rewrite ! 11 (λ (u : Val). ‵ (fat fullShare tyBool l₈ 0 u)) (ap only got′) refl $
+        rewrite ! 11 (λ (t : Bool). ‵ (fat fullShare tyBool l₈ 0 (vbool t))) (e′) refl $
         drop ! $
         split ! $
         move ! (1 ∷ []) $
@@ -665,9 +519,9 @@ module _ {M : Type 1} (𝓤 : URA M) (H : Heap 𝓤) (A : Atoms 𝓤) (W : Given
         move ! (0 ∷ 4 ∷ []) $
         use2 W (later (‵ (Lines (st k .lines)) ⊛ ‵ (flft κ₃ q₃))) (shared-back R κ₃ (ν ∷ []) q₃ γ₃ b₃ o₃ 𝓤 H A W (named 3) (named 1) (st k .lines) (length ys) (lines-length im k entry) room₃) $
         await ! tt $ split ! $
-        forget ! 15 refl $ forget ! 16 refl $ forget ! 17 refl $
-        keep ! (4 ∷ 3 ∷ 5 ∷ 6 ∷ 7 ∷ 8 ∷ 0 ∷ 1 ∷ 9 ∷ 10 ∷ 11 ∷ 12 ∷ 13 ∷ 14 ∷ 15 ∷ 16 ∷ 17 ∷ 18 ∷ 19 ∷ 20 ∷ 21 ∷ 22 ∷ 23 ∷ 24 ∷ 25 ∷ 26 ∷ 27 ∷ 28 ∷ 29 ∷ 30 ∷ 31 ∷ 32 ∷ 33 ∷ 34 ∷ 35 ∷ 36 ∷ 37 ∷ 38 ∷ 39 ∷ 40 ∷ 41 ∷ 42 ∷ 43 ∷ 44 ∷ 45 ∷ 46 ∷ 47 ∷ 48 ∷ 49 ∷ 50 ∷ 51 ∷ 52 ∷ []) $
-        tells k X is (subst (λ (m : ℕ). m < 2 ^ 8) e (got .1)) (subst (λ (m : ℕ). m < 2 ^ 64) e′ (got′ .1)) small next))))))))))))))
+        forget ! 13 refl $ forget ! 14 refl $ forget ! 15 refl $
+        keep ! (4 ∷ 3 ∷ 5 ∷ 6 ∷ 7 ∷ 8 ∷ 0 ∷ 1 ∷ 9 ∷ 10 ∷ 11 ∷ 12 ∷ 13 ∷ 14 ∷ 15 ∷ 16 ∷ 17 ∷ 18 ∷ 19 ∷ 20 ∷ 21 ∷ 22 ∷ 23 ∷ 24 ∷ 25 ∷ 26 ∷ 27 ∷ 28 ∷ 29 ∷ 30 ∷ 31 ∷ 32 ∷ 33 ∷ 34 ∷ 35 ∷ 36 ∷ 37 ∷ 38 ∷ 39 ∷ 40 ∷ 41 ∷ 42 ∷ 43 ∷ 44 ∷ 45 ∷ 46 ∷ []) $
+        stepped k X is (subst (λ (m : ℕ). m < 2 ^ 8) e (got .1)) small next))))))))))))))
 
     -- the turn that leaves the loop, and the rest of the body
     ends : (X : SProp 𝓤) → Shown n → ent 𝓤 (⋆ 𝓤 H A (At n)) (Wp 𝓤 H C Λ En mir.turn-1 (afterTurn 𝓤 H X Left))
@@ -683,18 +537,18 @@ module _ {M : Type 1} (𝓤 : URA M) (H : Heap 𝓤) (A : Atoms 𝓤) (W : Given
         split ! $
         drop ! $
         peeks ! bool (Is bool) (shows 𝓤 H A bool) r (w ∷ []) (λ got.
-        land ! (from ! (stop !)) (init ! 15 refl (bool-lawful 𝓤 H A W .typed r _ got .0)) $
-        rewrite ! 15 (λ (u : Val). ‵ (fat fullShare tyBool l₁₁ 0 u)) (ap only got) refl $
-        rewrite ! 15 (λ (t : Bool). ‵ (fat fullShare tyBool l₁₁ 0 (vbool t))) (e) refl $
+        land ! (from ! (stop !)) (init ! 13 refl (bool-lawful 𝓤 H A W .typed r _ got .0)) $
+        rewrite ! 13 (λ (u : Val). ‵ (fat fullShare tyBool l₉ 0 u)) (ap only got) refl $
+        rewrite ! 13 (λ (t : Bool). ‵ (fat fullShare tyBool l₉ 0 (vbool t))) (e) refl $
         drop ! $
-        rewrite ! 14 (λ (t : Bool). ‵ (fat fullShare tyBool l₁₁ 0 (vbool t))) (stops im codes trace ys ready) refl $
-        leaves-loop ! (load ! (from ! (stop !)) (look ! 14 refl)) $
+        rewrite ! 12 (λ (t : Bool). ‵ (fat fullShare tyBool l₉ 0 (vbool t))) (stops im codes trace ys ready) refl $
+        leaves-loop ! (load ! (from ! (stop !)) (look ! 12 refl)) $
         exec ! C Λ En mir.t-4 (atRet En Post) $
-        assigns ! (of-opd ! (load ! (from ! (stop !)) (look ! 9 refl))) (from ! (stop !)) (init ! 29 refl (tt, record { fits = n-fits })) $
-        returns ! (look ! 29 refl) $
-        forget ! 8 refl $ forget ! 9 refl $ forget ! 14 refl $ forget ! 25 refl $ forget ! 26 refl $ forget ! 27 refl $ forget ! 28 refl $ forget ! 29 refl $
-        keep ! (0 ∷ 1 ∷ 2 ∷ 3 ∷ 4 ∷ 5 ∷ 6 ∷ 7 ∷ 24 ∷ 51 ∷ 23 ∷ 50 ∷ 22 ∷ 49 ∷ 21 ∷ 48 ∷ 20 ∷ 47 ∷ 19 ∷ 46 ∷ 18 ∷ 45 ∷ 17 ∷ 44 ∷ 16 ∷ 43 ∷ 15 ∷ 42 ∷ 14 ∷ 41 ∷ 13 ∷ 40 ∷ 12 ∷ 39 ∷ 11 ∷ 38 ∷ 10 ∷ 37 ∷ 9 ∷ 36 ∷ 8 ∷ 35 ∷ 28 ∷ 34 ∷ 27 ∷ 33 ∷ 26 ∷ 32 ∷ 25 ∷ 31 ∷ 29 ∷ 30 ∷ []) $
-        move ! (50 ∷ 51 ∷ []) $ free1 ! $ move ! (48 ∷ 49 ∷ []) $ free1 ! $ move ! (46 ∷ 47 ∷ []) $ free1 ! $ move ! (44 ∷ 45 ∷ []) $ free1 ! $ move ! (42 ∷ 43 ∷ []) $ free1 ! $ move ! (40 ∷ 41 ∷ []) $ free1 ! $ move ! (38 ∷ 39 ∷ []) $ free1 ! $ move ! (36 ∷ 37 ∷ []) $ free1 ! $ move ! (34 ∷ 35 ∷ []) $ free1 ! $ move ! (32 ∷ 33 ∷ []) $ free1 ! $ move ! (30 ∷ 31 ∷ []) $ free1 ! $ move ! (28 ∷ 29 ∷ []) $ free1 ! $ move ! (26 ∷ 27 ∷ []) $ free1 ! $ move ! (24 ∷ 25 ∷ []) $ free1 ! $ move ! (22 ∷ 23 ∷ []) $ free1 ! $ move ! (20 ∷ 21 ∷ []) $ free1 ! $ move ! (18 ∷ 19 ∷ []) $ free1 ! $ move ! (16 ∷ 17 ∷ []) $ free1 ! $ move ! (14 ∷ 15 ∷ []) $ free1 ! $ move ! (12 ∷ 13 ∷ []) $ free1 ! $ move ! (10 ∷ 11 ∷ []) $ free1 ! $ move ! (8 ∷ 9 ∷ []) $ free1 ! $ free0 ! $
+        assigns ! (of-opd ! (load ! (from ! (stop !)) (look ! 9 refl))) (from ! (stop !)) (init ! 26 refl (tt, record { fits = n-fits })) $
+        returns ! (look ! 26 refl) $
+        forget ! 8 refl $ forget ! 9 refl $ forget ! 12 refl $ forget ! 22 refl $ forget ! 23 refl $ forget ! 24 refl $ forget ! 25 refl $ forget ! 26 refl $
+        keep ! (0 ∷ 1 ∷ 2 ∷ 3 ∷ 4 ∷ 5 ∷ 6 ∷ 7 ∷ 21 ∷ 45 ∷ 20 ∷ 44 ∷ 19 ∷ 43 ∷ 18 ∷ 42 ∷ 17 ∷ 41 ∷ 16 ∷ 40 ∷ 15 ∷ 39 ∷ 14 ∷ 38 ∷ 13 ∷ 37 ∷ 12 ∷ 36 ∷ 11 ∷ 35 ∷ 10 ∷ 34 ∷ 9 ∷ 33 ∷ 8 ∷ 32 ∷ 25 ∷ 31 ∷ 24 ∷ 30 ∷ 23 ∷ 29 ∷ 22 ∷ 28 ∷ 26 ∷ 27 ∷ []) $
+        move ! (44 ∷ 45 ∷ []) $ free1 ! $ move ! (42 ∷ 43 ∷ []) $ free1 ! $ move ! (40 ∷ 41 ∷ []) $ free1 ! $ move ! (38 ∷ 39 ∷ []) $ free1 ! $ move ! (36 ∷ 37 ∷ []) $ free1 ! $ move ! (34 ∷ 35 ∷ []) $ free1 ! $ move ! (32 ∷ 33 ∷ []) $ free1 ! $ move ! (30 ∷ 31 ∷ []) $ free1 ! $ move ! (28 ∷ 29 ∷ []) $ free1 ! $ move ! (26 ∷ 27 ∷ []) $ free1 ! $ move ! (24 ∷ 25 ∷ []) $ free1 ! $ move ! (22 ∷ 23 ∷ []) $ free1 ! $ move ! (20 ∷ 21 ∷ []) $ free1 ! $ move ! (18 ∷ 19 ∷ []) $ free1 ! $ move ! (16 ∷ 17 ∷ []) $ free1 ! $ move ! (14 ∷ 15 ∷ []) $ free1 ! $ move ! (12 ∷ 13 ∷ []) $ free1 ! $ move ! (10 ∷ 11 ∷ []) $ free1 ! $ move ! (8 ∷ 9 ∷ []) $ free1 ! $ free0 ! $
         by ! (exits n-fits)))))
 
     invariant : (t k : ℕ) → k + t ≡ n → Shown k → ent 𝓤 (⋆ 𝓤 H A (At k)) (Inv t)
@@ -704,12 +558,9 @@ module _ {M : Type 1} (𝓤 : URA M) (H : Heap 𝓤) (A : Atoms 𝓤) (W : Given
     turn-at : (t k : ℕ) → k + t ≡ n → Shown k → ent 𝓤 (⋆ 𝓤 H A (At k)) (Wp 𝓤 H C Λ En mir.turn-1 (afterTurn 𝓤 H (Below t) Left))
     turn-at zero k e is = subst (λ (j : ℕ). Shown j → ent 𝓤 (⋆ 𝓤 H A (At j)) (Wp 𝓤 H C Λ En mir.turn-1 (afterTurn 𝓤 H (Below zero) Left))) (sym e ∙ add-zero k) (ends (Below zero)) is
     turn-at (suc t) k e is =
-        let small : k < n = omega (arith, e) in
-        let some = turned k small .some in
-        let within = turned k small .within in
-        more k (Below (suc t)) is small
-        (λ is′. via 𝓤 (Inv (n - on k)) (invariant (n - on k) (on k) (omega arith) is′)
-        (via 𝓤 (guard 𝓤 (n - on k < suc t) (Inv (n - on k))) (guardI 𝓤 (n - on k < suc t) (Inv (n - on k)) (omega arith)) (exI 𝓤 (λ (u : ℕ). guard 𝓤 (u < suc t) (Inv u)) (n - on k))))
+        more k (Below (suc t)) is (omega (arith, e))
+        (λ is′. via 𝓤 (Inv t) (invariant t (suc k) (suc-add k t ∙ sym (add-suc k t) ∙ e) is′)
+        (via 𝓤 (guard 𝓤 (t < suc t) (Inv t)) (guardI 𝓤 (t < suc t) (Inv t) (lt-suc-self t)) (exI 𝓤 (λ (u : ℕ). guard 𝓤 (u < suc t) (Inv u)) t)))
 
     rounds : (t : ℕ) → ent 𝓤 (Inv t) (Wp 𝓤 H C Λ En mir.turn-1 (afterTurn 𝓤 H (Below t) Left))
     rounds t = exE 𝓤 (λ (k : ℕ). guard 𝓤 ((k + t ≡ n) × Shown k) (⋆ 𝓤 H A (At k))) (λ k. guardE 𝓤 ((k + t ≡ n) × Shown k) (⋆ 𝓤 H A (At k)) (λ h. turn-at t k (h .0) (h .1)))
@@ -719,14 +570,14 @@ module _ {M : Type 1} (𝓤 : URA M) (H : Heap 𝓤) (A : Atoms 𝓤) (W : Given
 
     -- what stands once the parameters are passed. It is a declaration of its own, which keeps antt's check of each below its limit of steps
     abbrev Start : List (Item 𝓤)
-    Start = ‵ (froom (tyInt w64) l₂₁ 0) ∷ ‵ (fdies (tyInt w64) l₂₁) ∷ ‵ (froom (sliceTy again′) l₂₀ 0) ∷ ‵ (fdies (sliceTy again′) l₂₀) ∷ ‵ (froom again′ l₁₉ 0) ∷ ‵ (fdies again′ l₁₉) ∷ ‵ (froom tyUnit l₁₈ 0) ∷ ‵ (fdies tyUnit l₁₈) ∷ ‵ (froom (sliceTy again) l₁₇ 0) ∷ ‵ (fdies (sliceTy again) l₁₇) ∷ ‵ (froom again l₁₆ 0) ∷ ‵ (fdies again l₁₆) ∷ ‵ (froom (sliceTy again) l₁₅ 0) ∷ ‵ (fdies (sliceTy again) l₁₅) ∷ ‵ (froom again l₁₄ 0) ∷ ‵ (fdies again l₁₄) ∷ ‵ (froom (sliceTy shared′) l₁₃ 0) ∷ ‵ (fdies (sliceTy shared′) l₁₃) ∷ ‵ (froom shared′ l₁₂ 0) ∷ ‵ (fdies shared′ l₁₂) ∷ ‵ (froom tyBool l₁₁ 0) ∷ ‵ (fdies tyBool l₁₁) ∷ ‵ (froom (tyInt w64) l₁₀ 0) ∷ ‵ (fdies (tyInt w64) l₁₀) ∷ ‵ (froom T′.mir l₉ 0) ∷ ‵ (fdies T′.mir l₉) ∷ ‵ (froom (tyInt w64) l₈ 0) ∷ ‵ (fdies (tyInt w64) l₈) ∷ ‵ (froom (tyInt w8) l₇ 0) ∷ ‵ (fdies (tyInt w8) l₇) ∷ ‵ (froom (tyInt w64) l₆ 0) ∷ ‵ (fdies (tyInt w64) l₆) ∷ ‵ (froom P′.mir l₅ 0) ∷ ‵ (fdies P′.mir l₅) ∷ ‵ (fat fullShare slice l₄ 0 s₃) ∷ ‵ (fdies slice l₄) ∷ ‵ (fat fullShare events l₃ 0 s₂) ∷ ‵ (fdies events l₃) ∷ ‵ (fat fullShare buffer l₂ 0 s₁) ∷ ‵ (fdies buffer l₂) ∷ ‵ (fat fullShare bytes l₁ 0 s) ∷ ‵ (fdies bytes l₁) ∷ ‵ (froom (tyInt w64) l₀ 0) ∷ ‵ (fdies (tyInt w64) l₀) ∷ (‵ (flft κ q) ⊛ ‵ (flft κ₁ q₁) ⊛ ‵ (flft κ₂ q₂) ⊛ ‵ (flft κ₃ q₃) ⊛ ‵ ftrue) ∷ ‵ (owns (ShrSlice (named 0) κ u8 ∷ MutSlice (named 1) κ₁ u8 ∷ MutSlice (named 2) κ₂ u8 ∷ MutSlice (named 3) κ₃ R ∷ []) a vals) ∷ []
+    Start = ‵ (froom (sliceTy again) l₁₈ 0) ∷ ‵ (fdies (sliceTy again) l₁₈) ∷ ‵ (froom again l₁₇ 0) ∷ ‵ (fdies again l₁₇) ∷ ‵ (froom (sliceTy again) l₁₆ 0) ∷ ‵ (fdies (sliceTy again) l₁₆) ∷ ‵ (froom again l₁₅ 0) ∷ ‵ (fdies again l₁₅) ∷ ‵ (froom (sliceTy again′) l₁₄ 0) ∷ ‵ (fdies (sliceTy again′) l₁₄) ∷ ‵ (froom again′ l₁₃ 0) ∷ ‵ (fdies again′ l₁₃) ∷ ‵ (froom tyUnit l₁₂ 0) ∷ ‵ (fdies tyUnit l₁₂) ∷ ‵ (froom (sliceTy shared′) l₁₁ 0) ∷ ‵ (fdies (sliceTy shared′) l₁₁) ∷ ‵ (froom shared′ l₁₀ 0) ∷ ‵ (fdies shared′ l₁₀) ∷ ‵ (froom tyBool l₉ 0) ∷ ‵ (fdies tyBool l₉) ∷ ‵ (froom tyBool l₈ 0) ∷ ‵ (fdies tyBool l₈) ∷ ‵ (froom (tyInt w8) l₇ 0) ∷ ‵ (fdies (tyInt w8) l₇) ∷ ‵ (froom (tyInt w64) l₆ 0) ∷ ‵ (fdies (tyInt w64) l₆) ∷ ‵ (froom P′.mir l₅ 0) ∷ ‵ (fdies P′.mir l₅) ∷ ‵ (fat fullShare slice l₄ 0 s₃) ∷ ‵ (fdies slice l₄) ∷ ‵ (fat fullShare events l₃ 0 s₂) ∷ ‵ (fdies events l₃) ∷ ‵ (fat fullShare buffer l₂ 0 s₁) ∷ ‵ (fdies buffer l₂) ∷ ‵ (fat fullShare bytes l₁ 0 s) ∷ ‵ (fdies bytes l₁) ∷ ‵ (froom (tyInt w64) l₀ 0) ∷ ‵ (fdies (tyInt w64) l₀) ∷ (‵ (flft κ q) ⊛ ‵ (flft κ₁ q₁) ⊛ ‵ (flft κ₂ q₂) ⊛ ‵ (flft κ₃ q₃) ⊛ ‵ ftrue) ∷ ‵ (owns (ShrSlice (named 0) κ u8 ∷ MutSlice (named 1) κ₁ u8 ∷ MutSlice (named 2) κ₂ u8 ∷ MutSlice (named 3) κ₃ R ∷ []) a vals) ∷ []
 
     -- the MIR, up to the loop
     begins : Sq W Start (runs C Λ En mir.t-1 (atRet En Post))
     unfolding exchanges
     begins =
         -- what the parameters own is taken apart, and the tokens
-        move ! (45 ∷ []) $
+        move ! (39 ∷ []) $
         fsplit ! $
         move ! (1 ∷ []) $
         fsplit ! $
@@ -735,7 +586,7 @@ module _ {M : Type 1} (𝓤 : URA M) (H : Heap 𝓤) (A : Atoms 𝓤) (W : Given
         move ! (1 ∷ []) $
         fsplit ! $
         move ! (1 ∷ []) $
-        move ! (49 ∷ []) $
+        move ! (43 ∷ []) $
         split ! $
         move ! (1 ∷ []) $
         split ! $
@@ -755,32 +606,32 @@ module _ {M : Type 1} (𝓤 : URA M) (H : Heap 𝓤) (A : Atoms 𝓤) (W : Given
         drop ! $
         rewrite ! 0 (λ (h : Step). ‵ (Q .own h (w ∷ []))) (e) refl $
         peeks ! Q (Is Q) (shows 𝓤 H A Q) (stepOf fresh 0) (w ∷ []) (λ got.
-        land ! (from ! (stop !)) (init ! 43 refl (typedP 𝓤 H A W (stepOf fresh 0) w got)) $
-        rewrite ! 43 (λ (u : Val). ‵ (fat fullShare P′.mir l₅ 0 u)) (ap only (tellsP (stepOf fresh 0) (w ∷ []) got)) refl $
+        land ! (from ! (stop !)) (init ! 37 refl (typedP 𝓤 H A W (stepOf fresh 0) w got)) $
+        rewrite ! 37 (λ (u : Val). ‵ (fat fullShare P′.mir l₅ 0 u)) (ap only (tellsP (stepOf fresh 0) (w ∷ []) got)) refl $
         drop ! $
-        assigns ! (of-opd ! (lit ! tt)) (from ! (stop !)) (init ! 40 refl (tt, record { fits = lit< tt })) $
-        keep ! (9 ∷ 4 ∷ 8 ∷ 3 ∷ 7 ∷ 2 ∷ 6 ∷ 1 ∷ 42 ∷ 40 ∷ 38 ∷ 36 ∷ 34 ∷ 32 ∷ 30 ∷ 28 ∷ 26 ∷ 24 ∷ 22 ∷ 20 ∷ 18 ∷ 16 ∷ 14 ∷ 12 ∷ 10 ∷ 50 ∷ 48 ∷ 46 ∷ 44 ∷ 52 ∷ 53 ∷ 51 ∷ 49 ∷ 47 ∷ 45 ∷ 43 ∷ 41 ∷ 39 ∷ 37 ∷ 35 ∷ 33 ∷ 31 ∷ 29 ∷ 27 ∷ 25 ∷ 23 ∷ 21 ∷ 19 ∷ 17 ∷ 15 ∷ 13 ∷ 11 ∷ []) $
+        assigns ! (of-opd ! (lit ! tt)) (from ! (stop !)) (init ! 34 refl (tt, record { fits = lit< tt })) $
+        keep ! (9 ∷ 4 ∷ 8 ∷ 3 ∷ 7 ∷ 2 ∷ 6 ∷ 1 ∷ 36 ∷ 34 ∷ 32 ∷ 30 ∷ 28 ∷ 26 ∷ 24 ∷ 22 ∷ 20 ∷ 18 ∷ 16 ∷ 14 ∷ 12 ∷ 10 ∷ 44 ∷ 42 ∷ 40 ∷ 38 ∷ 46 ∷ 47 ∷ 45 ∷ 43 ∷ 41 ∷ 39 ∷ 37 ∷ 35 ∷ 33 ∷ 31 ∷ 29 ∷ 27 ∷ 25 ∷ 23 ∷ 21 ∷ 19 ∷ 17 ∷ 15 ∷ 13 ∷ 11 ∷ []) $
         by ! (loops (spelledP (stepOf fresh 0) w got))))))
 
   -- the locals are allocated, and the parameters passed
-  walk : (𝓣 : Tables 𝓤 H) → Triple 𝓤 (𝓣 .C #search·first-step) (First 𝓤 H A mem run) → Triple 𝓤 (𝓣 .C #search·has-event) (Has 𝓤 H A mem run) → Triple 𝓤 (𝓣 .C #search·event-in) (In 𝓤 H A mem run) → Triple 𝓤 (𝓣 .C #bus·ahead) (Ahead 𝓤 H A mem run) → Triple 𝓤 (𝓣 .C #search·tell) (Tell 𝓤 H A mem run) → Triple 𝓤 (𝓣 .C #search·stretch-in) (Stretch 𝓤 H A mem run) → Triple 𝓤 (𝓣 .C #bus·steps-all) (StepsAll 𝓤 H A mem run) → Triple 𝓤 (𝓣 .C #search·step-in) (StepIn 𝓤 H A mem run) → Triple 𝓤 (𝓣 .C #bus·stretch-length) (Length 𝓤 H A mem run)
+  walk : (𝓣 : Tables 𝓤 H) → Triple 𝓤 (𝓣 .C #search·first-step) (First 𝓤 H A mem run) → Triple 𝓤 (𝓣 .C #search·has-event) (Has 𝓤 H A mem run) → Triple 𝓤 (𝓣 .C #search·event-in) (In 𝓤 H A mem run) → Triple 𝓤 (𝓣 .C #bus·level) (Level 𝓤 H A mem run) → Triple 𝓤 (𝓣 .C #bus·step-all) (StepAll 𝓤 H A mem run) → Triple 𝓤 (𝓣 .C #search·next-step) (Next 𝓤 H A mem run)
       → Room u8 (length im) → Room u8 (length codes) → Room u8 (length trace) → Room R (length ys)
       → ent 𝓤 (onEntry 𝓤 H A exchange.signature (κ, (κ₁, (κ₂, (κ₃, tt)))) (q, (q₁, (q₂, (q₃, tt)))) a vals) (WpFn 𝓤 H (𝓣 .C) (𝓣 .Λ) code.function (s ∷ s₁ ∷ s₂ ∷ s₃ ∷ []) Post)
-  walk 𝓣 known-first known-has known-in known-ahead known-tell known-stretch known-steps known-step known-length room room₁ room₂ room₃ =
+  walk 𝓣 known-first known-has known-in known-level known-step known-next room room₁ room₂ room₃ =
       qed W ((‵ (flft κ q) ⊛ ‵ (flft κ₁ q₁) ⊛ ‵ (flft κ₂ q₂) ⊛ ‵ (flft κ₃ q₃) ⊛ ‵ ftrue) ∷ ‵ (owns (ShrSlice (named 0) κ u8 ∷ MutSlice (named 1) κ₁ u8 ∷ MutSlice (named 2) κ₂ u8 ∷ MutSlice (named 3) κ₃ R ∷ []) a vals) ∷ []) ∵ enter ! (𝓣 .C) (𝓣 .Λ) code.function (s ∷ s₁ ∷ s₂ ∷ s₃ ∷ []) _ $
-      alloc1 ! (λ l₀. alloc1 ! (λ l₁. alloc1 ! (λ l₂. alloc1 ! (λ l₃. alloc1 ! (λ l₄. alloc1 ! (λ l₅. alloc1 ! (λ l₆. alloc1 ! (λ l₇. alloc1 ! (λ l₈. alloc1 ! (λ l₉. alloc1 ! (λ l₁₀. alloc1 ! (λ l₁₁. alloc1 ! (λ l₁₂. alloc1 ! (λ l₁₃. alloc1 ! (λ l₁₄. alloc1 ! (λ l₁₅. alloc1 ! (λ l₁₆. alloc1 ! (λ l₁₇. alloc1 ! (λ l₁₈. alloc1 ! (λ l₁₉. alloc1 ! (λ l₂₀. alloc1 ! (λ l₂₁. alloc0 ! $ params1 ! $
-      pass1 ! (init ! 40 refl (tt, (tt, (record { fits = room .0 }, tt)))) $ pass1 ! (init ! 38 refl (tt, (tt, (record { fits = room₁ .0 }, tt)))) $ pass1 ! (init ! 36 refl (tt, (tt, (record { fits = room₂ .0 }, tt)))) $ pass1 ! (init ! 34 refl (tt, (tt, (record { fits = room₃ .0 }, tt)))) $ pass0 ! $
-      begins 𝓣 (fmOf 𝓤 H (W .laws) 𝓣) known-first known-has known-in known-ahead known-tell known-stretch known-steps known-step known-length room room₁ room₂ room₃ l₀ l₁ l₂ l₃ l₄ l₅ l₆ l₇ l₈ l₉ l₁₀ l₁₁ l₁₂ l₁₃ l₁₄ l₁₅ l₁₆ l₁₇ l₁₈ l₁₉ l₂₀ l₂₁))))))))))))))))))))))
+      alloc1 ! (λ l₀. alloc1 ! (λ l₁. alloc1 ! (λ l₂. alloc1 ! (λ l₃. alloc1 ! (λ l₄. alloc1 ! (λ l₅. alloc1 ! (λ l₆. alloc1 ! (λ l₇. alloc1 ! (λ l₈. alloc1 ! (λ l₉. alloc1 ! (λ l₁₀. alloc1 ! (λ l₁₁. alloc1 ! (λ l₁₂. alloc1 ! (λ l₁₃. alloc1 ! (λ l₁₄. alloc1 ! (λ l₁₅. alloc1 ! (λ l₁₆. alloc1 ! (λ l₁₇. alloc1 ! (λ l₁₈. alloc0 ! $ params1 ! $
+      pass1 ! (init ! 34 refl (tt, (tt, (record { fits = room .0 }, tt)))) $ pass1 ! (init ! 32 refl (tt, (tt, (record { fits = room₁ .0 }, tt)))) $ pass1 ! (init ! 30 refl (tt, (tt, (record { fits = room₂ .0 }, tt)))) $ pass1 ! (init ! 28 refl (tt, (tt, (record { fits = room₃ .0 }, tt)))) $ pass0 ! $
+      begins 𝓣 (fmOf 𝓤 H (W .laws) 𝓣) known-first known-has known-in known-level known-step known-next room room₁ room₂ room₃ l₀ l₁ l₂ l₃ l₄ l₅ l₆ l₇ l₈ l₉ l₁₀ l₁₁ l₁₂ l₁₃ l₁₄ l₁₅ l₁₆ l₁₇ l₁₈)))))))))))))))))))
 
 module _ {M : Type 1} (𝓤 : URA M) (H : Heap 𝓤) (A : Atoms 𝓤) (W : Given 𝓤 H A) (mem : Memory → SProp 𝓤) (run : Routine → Fun 𝓤) (𝓣 : Tables 𝓤 H)
-    (known-first : Triple 𝓤 (𝓣 .C #search·first-step) (First 𝓤 H A mem run)) (known-has : Triple 𝓤 (𝓣 .C #search·has-event) (Has 𝓤 H A mem run)) (known-in : Triple 𝓤 (𝓣 .C #search·event-in) (In 𝓤 H A mem run)) (known-ahead : Triple 𝓤 (𝓣 .C #bus·ahead) (Ahead 𝓤 H A mem run)) (known-tell : Triple 𝓤 (𝓣 .C #search·tell) (Tell 𝓤 H A mem run)) (known-stretch : Triple 𝓤 (𝓣 .C #search·stretch-in) (Stretch 𝓤 H A mem run)) (known-steps : Triple 𝓤 (𝓣 .C #bus·steps-all) (StepsAll 𝓤 H A mem run)) (known-step : Triple 𝓤 (𝓣 .C #search·step-in) (StepIn 𝓤 H A mem run)) (known-length : Triple 𝓤 (𝓣 .C #bus·stretch-length) (Length 𝓤 H A mem run)) where
+    (known-first : Triple 𝓤 (𝓣 .C #search·first-step) (First 𝓤 H A mem run)) (known-has : Triple 𝓤 (𝓣 .C #search·has-event) (Has 𝓤 H A mem run)) (known-in : Triple 𝓤 (𝓣 .C #search·event-in) (In 𝓤 H A mem run)) (known-level : Triple 𝓤 (𝓣 .C #bus·level) (Level 𝓤 H A mem run)) (known-step : Triple 𝓤 (𝓣 .C #bus·step-all) (StepAll 𝓤 H A mem run)) (known-next : Triple 𝓤 (𝓣 .C #search·next-step) (Next 𝓤 H A mem run)) where
   exchange-walks : Walks 𝓤 H A exchange.ended stayed (WpFn 𝓤 H (𝓣 .C) (𝓣 .Λ) code.function) (exchange.clauses 𝓤 H A mem run)
   exchange-walks = walked 𝓤 H A exchange.ended stayed (exchange.clauses 𝓤 H A mem run) (WpFn 𝓤 H (𝓣 .C) (𝓣 .Λ) code.function)
       (λ κs. (slice-vals, (slice-vals, (slice-vals, (slice-vals, tt))))) (λ κs. (shr-slice-tells (named 0) (κs .0) u8, (mut-slice-tells (named 1) (κs .1 .0) u8, (mut-slice-tells (named 2) (κs .1 .1 .0) u8, (mut-slice-tells (named 3) (κs .1 .1 .1 .0) R, tt)))))
       (λ κs qs bounds a g are. needs 𝓤 (Ready (a .0 .now) (a .1 .0 .now) (a .1 .1 .0 .now) (a .1 .1 .1 .0 .now)) _ (λ ready.
       walk 𝓤 H A W mem run (κs .0) (κs .1 .0) (κs .1 .1 .0) (κs .1 .1 .1 .0) (qs .0) (qs .1 .0) (qs .1 .1 .0) (qs .1 .1 .1 .0) (a .0 .ptr .0) (a .0 .ptr .1) (a .0 .name) (a .0 .now) (a .1 .0 .ptr .0) (a .1 .0 .ptr .1) (a .1 .0 .name) (a .1 .0 .now)
       (a .1 .1 .0 .ptr .0) (a .1 .1 .0 .ptr .1) (a .1 .1 .0 .name) (a .1 .1 .0 .now) (a .1 .1 .1 .0 .ptr .0) (a .1 .1 .1 .0 .ptr .1) (a .1 .1 .1 .0 .name) (a .1 .1 .1 .0 .now) ready
-      𝓣 known-first known-has known-in known-ahead known-tell known-stretch known-steps known-step known-length (are .0 .0 .1) (are .1 .0 .0 .1) (are .1 .1 .0 .0 .1) (are .1 .1 .1 .0 .0 .1)))
+      𝓣 known-first known-has known-in known-level known-step known-next (are .0 .0 .1) (are .1 .0 .0 .1) (are .1 .1 .0 .0 .1) (are .1 .1 .1 .0 .0 .1)))
 
   exchange-meets : Meets 𝓤 H A exchange.signature (WpFn 𝓤 H (𝓣 .C) (𝓣 .Λ) code.function) (exchange.spec 𝓤 H A mem run)
   exchange-meets =
@@ -796,9 +647,6 @@ exchange-spec 𝓤 H 𝓜 𝓖 𝓡 =
     (cited 𝓤 H (First 𝓤 H (𝓖 .A) (𝓜 .mem) (𝓡 .run)) 𝓜 𝓡 code.env #search·first-step first-step-def.routine code.calls-search·first-step (first-step-thm.met 𝓤 H 𝓜 𝓖 𝓡))
     (cited 𝓤 H (Has 𝓤 H (𝓖 .A) (𝓜 .mem) (𝓡 .run)) 𝓜 𝓡 code.env #search·has-event has-event-def.routine code.calls-search·has-event (has-event-thm.met 𝓤 H 𝓜 𝓖 𝓡))
     (cited 𝓤 H (In 𝓤 H (𝓖 .A) (𝓜 .mem) (𝓡 .run)) 𝓜 𝓡 code.env #search·event-in event-in-def.routine code.calls-search·event-in (event-in-thm.met 𝓤 H 𝓜 𝓖 𝓡))
-    (cited 𝓤 H (Ahead 𝓤 H (𝓖 .A) (𝓜 .mem) (𝓡 .run)) 𝓜 𝓡 code.env #bus·ahead ahead-def.routine code.calls-bus·ahead (ahead-thm.met 𝓤 H 𝓜 𝓖 𝓡))
-    (cited 𝓤 H (Tell 𝓤 H (𝓖 .A) (𝓜 .mem) (𝓡 .run)) 𝓜 𝓡 code.env #search·tell tell-def.routine code.calls-search·tell (tell-thm.met 𝓤 H 𝓜 𝓖 𝓡))
-    (cited 𝓤 H (Stretch 𝓤 H (𝓖 .A) (𝓜 .mem) (𝓡 .run)) 𝓜 𝓡 code.env #search·stretch-in stretch-in-def.routine code.calls-search·stretch-in (stretch-in-thm.met 𝓤 H 𝓜 𝓖 𝓡))
-    (cited 𝓤 H (StepsAll 𝓤 H (𝓖 .A) (𝓜 .mem) (𝓡 .run)) 𝓜 𝓡 code.env #bus·steps-all steps-all-def.routine code.calls-bus·steps-all (steps-all-thm.met 𝓤 H 𝓜 𝓖 𝓡))
-    (cited 𝓤 H (StepIn 𝓤 H (𝓖 .A) (𝓜 .mem) (𝓡 .run)) 𝓜 𝓡 code.env #search·step-in step-in-def.routine code.calls-search·step-in (step-in-thm.met 𝓤 H 𝓜 𝓖 𝓡))
-    (cited 𝓤 H (Length 𝓤 H (𝓖 .A) (𝓜 .mem) (𝓡 .run)) 𝓜 𝓡 code.env #bus·stretch-length stretch-length-def.routine code.calls-bus·stretch-length (stretch-length-thm.met 𝓤 H 𝓜 𝓖 𝓡)))
+    (cited 𝓤 H (Level 𝓤 H (𝓖 .A) (𝓜 .mem) (𝓡 .run)) 𝓜 𝓡 code.env #bus·level level-def.routine code.calls-bus·level (level-thm.met 𝓤 H 𝓜 𝓖 𝓡))
+    (cited 𝓤 H (StepAll 𝓤 H (𝓖 .A) (𝓜 .mem) (𝓡 .run)) 𝓜 𝓡 code.env #bus·step-all step-all-def.routine code.calls-bus·step-all (step-all-thm.met 𝓤 H 𝓜 𝓖 𝓡))
+    (cited 𝓤 H (Next 𝓤 H (𝓖 .A) (𝓜 .mem) (𝓡 .run)) 𝓜 𝓡 code.env #search·next-step next-step-def.routine code.calls-search·next-step (next-step-thm.met 𝓤 H 𝓜 𝓖 𝓡)))
