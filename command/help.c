@@ -32,7 +32,9 @@ static const char new_help[] =
     "\n"
     "  --fill HH        fill memories with a byte; else 00, and FF for a DS1982\n"
     "  --memory FILE    the memory of every device without a FILE of its own\n"
-    "  --serial SERIAL  count serial numbers up from this one\n";
+    "  --serial SERIAL  count serial numbers up from this one\n"
+    "  --empty          a bench without devices\n"
+    "  -f, --force      replace IMAGE where it is an image; else no file that is there is replaced\n";
 
 static const char show_help[] =
     "usage: troughiron show IMAGE\n"
@@ -63,7 +65,8 @@ static const char run_help[] =
     "  --vcd FILE           write the line as a waveform\n"
     "  --bits               show every slot, not only bytes\n"
     "  --quiet              print no report\n"
-    "  --room N             lend the run N bytes for the answers; too few are refused (7)\n";
+    "  --room N             lend the run N bytes for the answers; too few are refused (7)\n"
+    "  -f, --force          replace files that are there, each only by its like; without it only -o IMAGE replaces one\n";
 
 static const char search_help[] =
     "usage: troughiron search [OPTION...] IMAGE\n"
@@ -72,7 +75,8 @@ static const char search_help[] =
     "\n"
     "  --answers FILE       write the answers that the master saw, a byte for each event\n"
     "  --write-trace FILE   write the events that it sent, a byte each\n"
-    "  --vcd FILE           write the line as a waveform\n";
+    "  --vcd FILE           write the line as a waveform\n"
+    "  -f, --force          replace files that are there, each only by its like\n";
 
 static const char check_help[] =
     "usage: troughiron check CODE\n"

@@ -32,20 +32,20 @@ FILE *record_report(const char *command, const struct record_paths *paths)
 int record_write(const struct record_paths *paths, FILE *report, const struct session *s, const struct bytes *answers,
                  const struct bytes *image)
 {
-    struct outputs outputs = { 0 };
+    struct outputs outputs = { .replacing = paths->replacing };
     struct bytes vcd = { 0 };
 
     if (paths->vcd)
         vcd_write(&vcd, s, answers->data);
 
-    int status = outputs_stage(&outputs, paths->answers, answers->data, answers->length);
+    int status = outputs_stage(&outputs, paths->answers, HOLDS_ANSWERS, answers->data, answers->length);
 
     if (status == DONE)
-        status = outputs_stage(&outputs, paths->trace, s->events.data, s->events.length);
+        status = outputs_stage(&outputs, paths->trace, HOLDS_TRACE, s->events.data, s->events.length);
     if (status == DONE)
-        status = outputs_stage(&outputs, paths->vcd, vcd.data, vcd.length);
+        status = outputs_stage(&outputs, paths->vcd, HOLDS_WAVEFORM, vcd.data, vcd.length);
     if (status == DONE)
-        status = outputs_stage(&outputs, paths->image, image->data, image->length);
+        status = outputs_stage(&outputs, paths->image, HOLDS_IMAGE, image->data, image->length);
     if (status == DONE)
         status = outputs_commit(&outputs, report);
     outputs_free(&outputs);

@@ -35,6 +35,7 @@ static int take_words(struct run *r, const struct words *words, const char *trac
     if (words->count != (trace ? 1 : 2))
         return words_wrong(words, trace ? "one image" : "an image and a session");
     r->image_path = words->list[0];
+    r->paths.replacing.own = r->image_path;
     r->session_path = trace ? trace : words->list[1];
     return same_standard_input(r);
 }
@@ -116,6 +117,8 @@ int run_command(struct words *words)
         { "--room", &room, NULL },
         { "--bits", NULL, &r.bits },
         { "--quiet", NULL, &r.quiet },
+        { "-f", NULL, &r.paths.replacing.forced },
+        { "--force", NULL, &r.paths.replacing.forced },
     };
     int status = options_take(words, options, sizeof options / sizeof *options);
 

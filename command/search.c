@@ -105,6 +105,8 @@ int search_command(struct words *words)
         { "--answers", &paths.answers, NULL },
         { "--write-trace", &paths.trace, NULL },
         { "--vcd", &paths.vcd, NULL },
+        { "-f", NULL, &paths.replacing.forced },
+        { "--force", NULL, &paths.replacing.forced },
     };
     const int status = options_take(words, options, sizeof options / sizeof *options);
 

@@ -46,7 +46,7 @@ static void set(struct dump *d, int wire, int level)
 static void head(struct bytes *out)
 {
     bytes_print(out,
-                "$version troughiron $end\n"
+                VCD_START
                 "$comment 1-Wire at standard speed, nominal widths $end\n"
                 "$timescale 1 us $end\n"
                 "$scope module bench $end\n"
