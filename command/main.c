@@ -2,14 +2,11 @@
 #include "commands.h"
 #include "outputs.h"
 #include "status.h"
+#include "troughiron.h"
 
 #include <signal.h>
 #include <stdio.h>
 #include <string.h>
-
-#ifndef VERSION
-#define VERSION "unknown"
-#endif
 
 static int print(const char *text)
 {
@@ -50,7 +47,7 @@ int main(int argc, char **argv)
     if (argc < 2)
         return bad_usage("", "a command expected");
     if (strcmp(argv[1], "--version") == 0)
-        return print("troughiron " VERSION "\n");
+        return print("troughiron " TROUGHIRON_VERSION "\n");
     if (strcmp(argv[1], "--help") == 0 || strcmp(argv[1], "-h") == 0)
         return print(help_text(""));
 
