@@ -1,4 +1,5 @@
 /* troughiron new: an image with right codes, from a list of kinds. */
+#include "cause.h"
 #include "code.h"
 #include "commands.h"
 #include "image.h"
@@ -216,7 +217,7 @@ static int write_image(const struct bench *b, const char *path)
     const uint32_t refusal = status == DONE ? image_refusal(&image) : 0;
 
     if (refusal)
-        status = refused(path, refusal);
+        status = image_refused(path, &image, refusal);
     if (status == DONE)
         status = outputs_stage(&outputs, path, HOLDS_IMAGE, image.data, image.length);
     if (status == DONE)

@@ -1,4 +1,5 @@
 /* troughiron run: a session on the devices of an image. */
+#include "cause.h"
 #include "commands.h"
 #include "image.h"
 #include "record.h"
@@ -74,7 +75,7 @@ static int run_events(struct run *r)
                                             r->answers.length);
 
     if (refusal)
-        return refused(r->session.name, refusal);
+        return run_refused(&r->session, &r->image, r->answers.length, refusal);
     if (r->answers.length > events->length)
         r->answers.length = events->length;
     return DONE;

@@ -5,7 +5,6 @@
 #include "image.h"
 #include "status.h"
 
-#include <stdbool.h>
 #include <stdio.h>
 #include <stdlib.h>
 #include <string.h>
@@ -314,8 +313,11 @@ static int read_lines(struct session *s, const struct bytes *image, char *text, 
             return bad_line(s->name, number, "not text: there is a zero byte");
         *stop = '\0';
         status = read_line(s, image, number, text);
-        if (status == DONE && s->events.length > FAR_TOO_LONG)
-            return bad_line(s->name, number, "over %d events", FAR_TOO_LONG);
+        if (s->events.length > FAR_TOO_LONG) {
+            s->events.length = FAR_TOO_LONG + 1;
+            s->cut = true;
+            return status;
+        }
         text = stop + 1;
     }
     return status;
@@ -363,6 +365,7 @@ int session_read_raw(struct session *s, const char *path)
 
     s->name = input_name(path);
     s->unit = "event";
+    s->raw = true;
     for (size_t i = 0, end; status == DONE && i < events.length; i = end) {
         const char *const text = raw_text(events.data[i]);
 
