@@ -8,6 +8,7 @@
 #include <stdio.h>
 #include <stdlib.h>
 #include <string.h>
+#include <strings.h>
 
 /* ROM commands that have a word of their own. */
 enum { SKIP_ROM = 0xCC, MATCH_ROM = 0x55 };
@@ -252,9 +253,10 @@ static int read_step(struct reader *r)
     char room[SHOWN_ROOM];
 
     for (size_t i = 0; i < sizeof steps / sizeof *steps; i++)
-        if (strcmp(word, steps[i].word) == 0)
+        if (strcasecmp(word, steps[i].word) == 0)
             return steps[i].read(r);
-    return bad_line(r->session->name, r->line, "unknown step '%s'", shown(room, word));
+    return bad_line(r->session->name, r->line,
+                    "unknown step '%s'; steps are reset, skip, match, send, bits, read, pulse and events", shown(room, word));
 }
 
 /* Where a comment starts, or the end: # at the start of a line, or # with a blank or nothing after it; "#2" is a device. */
@@ -300,19 +302,32 @@ static int read_line(struct session *s, const struct bytes *image, size_t number
     return read_step(&r);
 }
 
+/* The mark that some editors put before a text. */
+static const char byte_order_mark[] = { '\xEF', '\xBB', '\xBF' };
+
+static char *past_mark(char *text, size_t length)
+{
+    const bool marked = length >= sizeof byte_order_mark && memcmp(text, byte_order_mark, sizeof byte_order_mark) == 0;
+
+    return marked ? text + sizeof byte_order_mark : text;
+}
+
+/* Every bad line is said, and one of them is enough for a bad session. */
 static int read_lines(struct session *s, const struct bytes *image, char *text, size_t length)
 {
     char *const end = text + length;
     int status = DONE;
 
-    for (size_t number = 1; text < end && status == DONE; number++) {
+    text = past_mark(text, length);
+    for (size_t number = 1; text < end; number++) {
         char *const newline = memchr(text, '\n', (size_t)(end - text));
         char *const stop = newline ? newline : end;
 
-        if (memchr(text, '\0', (size_t)(stop - text)))
-            return bad_line(s->name, number, "not text: there is a zero byte");
         *stop = '\0';
-        status = read_line(s, image, number, text);
+        if (strlen(text) < (size_t)(stop - text))
+            status = bad_line(s->name, number, "not text: there is a zero byte");
+        else if (read_line(s, image, number, text) != DONE)
+            status = BAD;
         if (s->events.length > FAR_TOO_LONG) {
             s->events.length = FAR_TOO_LONG + 1;
             s->cut = true;
