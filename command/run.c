@@ -81,12 +81,18 @@ static int run_events(struct run *r)
     return DONE;
 }
 
+/* What every transaction changed, and what they changed in all, which can be nothing. */
 static void report(const struct run *r)
 {
-    report_steps(r->report, &r->session, r->answers.data, r->bits);
+    const bool changed = report_steps(r->report, &r->session, r->answers.data, &r->before, r->bits);
+
     fputc('\n', r->report);
     report_counts(r->report, &r->session.events);
-    report_changes(r->report, &r->before, &r->image);
+    if (image_differs(&r->before, &r->image))
+        fputs("changed in all\n", r->report);
+    else
+        fputs(changed ? "nothing changed in all\n" : "nothing changed\n", r->report);
+    report_changes(r->report, 0, &r->before, &r->image);
 }
 
 static int run_session(struct run *r, const char *room)

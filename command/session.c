@@ -245,16 +245,20 @@ static int read_step(struct reader *r)
     static const struct {
         const char *word;
         int (*read)(struct reader *r);
+        bool written;
     } steps[] = {
-        { "reset", read_reset }, { "skip", read_skip }, { "match", read_match }, { "send", read_send },
-        { "bits", read_bits },   { "read", read_read }, { "pulse", read_pulse }, { "events", read_events },
+        { "reset", read_reset, false }, { "skip", read_skip, true },  { "match", read_match, true },
+        { "send", read_send, true },    { "bits", read_bits, true },  { "read", read_read, false },
+        { "pulse", read_pulse, false }, { "events", read_events, false },
     };
     const char *const word = next_word(r);
     char room[SHOWN_ROOM];
 
     for (size_t i = 0; i < sizeof steps / sizeof *steps; i++)
-        if (strcasecmp(word, steps[i].word) == 0)
+        if (strcasecmp(word, steps[i].word) == 0) {
+            r->session->steps[r->session->count - 1].written = steps[i].written;
             return steps[i].read(r);
+        }
     return bad_line(r->session->name, r->line,
                     "unknown step '%s'; steps are reset, skip, match, send, bits, read, pulse and events", shown(room, word));
 }

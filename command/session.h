@@ -13,6 +13,7 @@ struct step {
     size_t line; /* of the text, from 1; for raw events the place of the first, from 0 */
     char *text;
     size_t first, count; /* events */
+    bool written;        /* its slots are written by the master, and not there to be read */
 };
 
 struct session {
