@@ -22,11 +22,11 @@ PROGRAM = $(BUILD)/troughiron
 WARNINGS = -std=c11 -Wall -Wextra -Werror
 DEFINES = -D_XOPEN_SOURCE=700
 
-SOURCES = command/bytes.c command/cause.c command/changes.c command/check.c command/code.c command/fields.c command/help.c \
+SOURCES = command/bytes.c command/cause.c command/changes.c command/check.c command/code.c command/fields.c command/gtkwave.c command/help.c \
     command/image.c command/interrupt.c command/kind.c command/main.c command/new.c command/options.c command/outputs.c command/progress.c \
     command/record.c command/replace.c command/report.c command/run.c command/search.c command/session.c command/show.c command/status.c \
     command/style.c command/transactions.c command/vcd.c
-HEADERS = command/bytes.h command/cause.h command/code.h command/commands.h command/event.h command/fields.h command/image.h \
+HEADERS = command/bytes.h command/cause.h command/code.h command/commands.h command/event.h command/fields.h command/gtkwave.h command/image.h \
     command/interrupt.h command/kind.h command/options.h command/outputs.h command/progress.h command/record.h command/replace.h command/report.h \
     command/session.h command/status.h command/style.h command/transactions.h command/vcd.h include/troughiron.h
 

@@ -64,7 +64,7 @@ static const char run_help[] =
     "  --trace FILE         take raw events, a byte each, in place of a session\n"
     "  --answers FILE       write the answers, a byte for each event\n"
     "  --write-trace FILE   write the events, a byte each\n"
-    "  --vcd FILE           write the line as a waveform\n"
+    "  --vcd FILE           write the line as a waveform, with a save file for GTKWave (.gtkw) beside it\n"
     "  --bits               show every slot, not only bytes\n"
     "  --quiet              print no report\n"
     "  --room N             lend the run N bytes for the answers; too few are refused (7)\n"
@@ -77,7 +77,7 @@ static const char search_help[] =
     "\n"
     "  --answers FILE       write the answers that the master saw, a byte for each event\n"
     "  --write-trace FILE   write the events that it sent, a byte each\n"
-    "  --vcd FILE           write the line as a waveform\n"
+    "  --vcd FILE           write the line as a waveform, with a save file for GTKWave (.gtkw) beside it\n"
     "  -f, --force          replace files that are there, each only by its like\n";
 
 static const char check_help[] =

@@ -1,5 +1,6 @@
 #include "replace.h"
 
+#include "gtkwave.h"
 #include "image.h"
 #include "status.h"
 #include "troughiron.h"
@@ -35,6 +36,10 @@ static bool holds(const struct bytes *file, enum holding holding)
         return all_within(file, TROUGHIRON_PULSE);
     case HOLDS_WAVEFORM:
         return starts_with(file, VCD_START);
+    case HOLDS_SAVE:
+        return starts_with(file, SAVE_START);
+    case HOLDS_STEPS:
+        return starts_with(file, STEPS_START);
     }
     return false;
 }
@@ -53,7 +58,8 @@ int replace_refused(const char *path)
 
 int replace_allowed(const struct replacing *asked, const char *path, enum holding holding)
 {
-    static const char *const names[] = { "image", "file of answers", "trace", "waveform of this command" };
+    static const char *const names[] = { "image", "file of answers", "trace", "waveform of this command",
+                                         "save file of this command", "file of steps of this command" };
     struct bytes file = { 0 };
 
     if (holding == HOLDS_IMAGE && asked->own && same_file(asked->own, path))

@@ -4,7 +4,7 @@
 
 #include <stdbool.h>
 
-enum holding { HOLDS_IMAGE, HOLDS_ANSWERS, HOLDS_TRACE, HOLDS_WAVEFORM };
+enum holding { HOLDS_IMAGE, HOLDS_ANSWERS, HOLDS_TRACE, HOLDS_WAVEFORM, HOLDS_SAVE, HOLDS_STEPS };
 
 /* What was asked for: -f, and the image that was read, or null, which may be written over as it was named twice. */
 struct replacing {
