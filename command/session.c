@@ -380,11 +380,14 @@ static const char *raw_text(uint8_t event)
 int session_read_raw(struct session *s, const char *path)
 {
     struct bytes events = { 0 };
-    const int status = bytes_read(&events, path);
+    const int status = bytes_read_most(&events, path, FAR_TOO_LONG);
 
     s->name = input_name(path);
     s->unit = "event";
     s->raw = true;
+    s->cut = events.length > FAR_TOO_LONG;
+    if (s->cut)
+        events.length = FAR_TOO_LONG + 1;
     for (size_t i = 0, end; status == DONE && i < events.length; i = end) {
         const char *const text = raw_text(events.data[i]);
 
