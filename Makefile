@@ -29,13 +29,15 @@ SHARED = $(BUILD)/libtroughiron.so.$(VERSION)
 WARNINGS = -std=c11 -Wall -Wextra -Werror
 DEFINES = -D_XOPEN_SOURCE=700
 
-SOURCES = command/bytes.c command/cause.c command/changes.c command/check.c command/code.c command/fields.c command/gtkwave.c command/help.c \
-    command/image.c command/interrupt.c command/kind.c command/main.c command/new.c command/options.c command/outputs.c command/progress.c \
-    command/record.c command/replace.c command/report.c command/run.c command/search.c command/session.c command/show.c command/status.c \
+SOURCES = command/bytes.c command/cause.c command/changes.c command/check.c command/code.c command/fields.c \
+    command/gtkwave.c command/help.c command/image.c command/interrupt.c command/kind.c command/main.c \
+    command/new.c command/options.c command/outputs.c command/progress.c command/record.c command/replace.c \
+    command/report.c command/run.c command/search.c command/session.c command/show.c command/status.c \
     command/style.c command/transactions.c command/vcd.c
-HEADERS = command/bytes.h command/cause.h command/code.h command/commands.h command/event.h command/fields.h command/gtkwave.h command/image.h \
-    command/interrupt.h command/kind.h command/options.h command/outputs.h command/progress.h command/record.h command/replace.h command/report.h \
-    command/session.h command/status.h command/style.h command/transactions.h command/vcd.h include/troughiron.h
+HEADERS = command/bytes.h command/cause.h command/code.h command/commands.h command/event.h command/fields.h \
+    command/gtkwave.h command/image.h command/interrupt.h command/kind.h command/options.h command/outputs.h \
+    command/progress.h command/record.h command/replace.h command/report.h command/session.h command/status.h \
+    command/style.h command/transactions.h command/vcd.h include/troughiron.h
 
 all: library
 	@$(MAKE) VERSION='$(VERSION)' CC='$(CC)' CFLAGS='$(CFLAGS)' BUILD='$(BUILD)' LIBRARY='$(LIBRARY)' '$(PROGRAM)'
@@ -66,8 +68,8 @@ install: all
 	install -m 644 '$(LIBRARY)' '$(DESTDIR)$(LIBDIR)/libtroughiron.a'
 	install -m 644 include/troughiron.h '$(DESTDIR)$(INCLUDEDIR)/troughiron.h'
 	install -m 644 man/troughiron.1 '$(DESTDIR)$(MANDIR)/man1/troughiron.1'
-	sed -e 's|@PREFIX@|$(PREFIX)|' -e 's|@LIBDIR@|$(LIBDIR)|' -e 's|@INCLUDEDIR@|$(INCLUDEDIR)|' -e 's|@VERSION@|$(VERSION)|' \
-	    command/troughiron.pc.in >'$(BUILD)/troughiron.pc'
+	sed -e 's|@PREFIX@|$(PREFIX)|' -e 's|@LIBDIR@|$(LIBDIR)|' -e 's|@INCLUDEDIR@|$(INCLUDEDIR)|' \
+	    -e 's|@VERSION@|$(VERSION)|' command/troughiron.pc.in >'$(BUILD)/troughiron.pc'
 	install -m 644 '$(BUILD)/troughiron.pc' '$(DESTDIR)$(LIBDIR)/pkgconfig/troughiron.pc'
 
 install-all: install shared
@@ -93,8 +95,9 @@ deb:
 uninstall:
 	rm -f '$(DESTDIR)$(BINDIR)/troughiron' '$(DESTDIR)$(LIBDIR)/libtroughiron.a' '$(DESTDIR)$(INCLUDEDIR)/troughiron.h' \
 	    '$(DESTDIR)$(MANDIR)/man1/troughiron.1' '$(DESTDIR)$(LIBDIR)/pkgconfig/troughiron.pc' \
-	    '$(DESTDIR)$(LIBDIR)/libtroughiron.so.$(VERSION)' '$(DESTDIR)$(LIBDIR)/$(SONAME)' '$(DESTDIR)$(LIBDIR)/libtroughiron.so' \
-	    '$(DESTDIR)$(LIBDIR)/libtroughiron.a.sources' '$(DESTDIR)$(DOCDIR)/GUIDE.md'
+	    '$(DESTDIR)$(LIBDIR)/libtroughiron.so.$(VERSION)' '$(DESTDIR)$(LIBDIR)/$(SONAME)' \
+	    '$(DESTDIR)$(LIBDIR)/libtroughiron.so' '$(DESTDIR)$(LIBDIR)/libtroughiron.a.sources' \
+	    '$(DESTDIR)$(DOCDIR)/GUIDE.md'
 	cd examples && for file in *.c *.h *.out run sessions/*; do rm -f '$(DESTDIR)$(DOCDIR)/examples/'"$$file"; done
 
 clean:

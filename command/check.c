@@ -121,7 +121,7 @@ static int check_code(uint8_t code[CODE_SIZE], enum reading reading)
     static const char *const readings[] = {
         "read as engraved",
         "read in wire order",
-        "read as engraved, without a CRC, which is now the one of these bytes",
+        "read as engraved, and given its CRC",
     };
     const struct kind *const kind = kind_of_family(code[0]);
     const bool valid = is_valid(code);
