@@ -1,7 +1,7 @@
 /*
  * The line of examples/line.c against one long run. A host that sends random sessions over the line gets the levels,
  * and has the image, that a run of all its events has, whatever resets lie between; it is told of a trace's end.
- * line [SEEDS]: how many random sessions, by default 100.
+ * line [SEEDS]: how many random sessions, by default 500.
  */
 #include "../examples/line.h"
 
@@ -273,7 +273,7 @@ static void at_the_end(void)
     check(memcmp(l, &before, sizeof before) == 0, "what was refused changed the line");
 }
 
-/* A write of the scratchpad, slot by slot to the last. The reset still fits; as OF is set, it sets no PF. */
+/* A write of the scratchpad, at the end slot by slot. The reset still fits; as OF is set, it sets no PF. */
 static void limit_by_bits(void)
 {
     open_bench((const uint8_t[]){ TROUGHIRON_DS1992 }, 1);
@@ -282,6 +282,10 @@ static void limit_by_bits(void)
     byte(0x0F);
     byte(0x26);
     byte(0x00);
+    while (host.count < 400)
+        bit(host.count % 3 == 0);
+    while (host.count + 8 * 64 + 100 < TROUGHIRON_MOST_EVENTS)
+        read_bytes(64);
     while (host.count < TROUGHIRON_MOST_EVENTS - 1)
         bit(host.count % 3 == 0);
     compare();
@@ -365,7 +369,7 @@ static void refused_images(void)
 
 int main(int argc, char **argv)
 {
-    const unsigned long seeds = argc > 1 ? strtoul(argv[1], NULL, 10) : 100;
+    const unsigned long seeds = argc > 1 ? strtoul(argv[1], NULL, 10) : 500;
 
     refused_images();
     refused_pulse();
