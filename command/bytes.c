@@ -79,24 +79,23 @@ const char *input_name(const char *path)
     return strcmp(path, "-") == 0 ? "standard input" : path;
 }
 
-static int read_all(struct bytes *b, int file, const char *name)
+/* Reads on until there are more bytes than most. */
+static int read_all(struct bytes *b, int file, const char *name, size_t most)
 {
     uint8_t part[4096];
     ssize_t count;
 
-    while ((count = read(file, part, sizeof part)) != 0) {
+    while (b->length <= most && (count = read(file, part, sizeof part)) != 0) {
         if (count < 0 && errno == EINTR)
             continue;
         if (count < 0)
             return bad_system(name);
         bytes_add(b, part, (size_t)count);
-        if (b->length > LONGEST_FILE)
-            return bad("%s: longer than %d bytes", name, LONGEST_FILE);
     }
     return DONE;
 }
 
-int bytes_read(struct bytes *b, const char *path)
+int bytes_read_most(struct bytes *b, const char *path, size_t most)
 {
     const int standard = strcmp(path, "-") == 0;
     const int file = standard ? STDIN_FILENO : open(path, O_RDONLY);
@@ -104,9 +103,18 @@ int bytes_read(struct bytes *b, const char *path)
     if (file < 0)
         return bad_system(path);
 
-    const int status = read_all(b, file, input_name(path));
+    const int status = read_all(b, file, input_name(path), most);
 
     if (!standard)
         close(file);
+    return status;
+}
+
+int bytes_read(struct bytes *b, const char *path)
+{
+    const int status = bytes_read_most(b, path, LONGEST_FILE);
+
+    if (status == DONE && b->length > LONGEST_FILE)
+        return bad("%s: longer than %d bytes", input_name(path), LONGEST_FILE);
     return status;
 }

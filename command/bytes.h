@@ -21,6 +21,9 @@ void *grown(void *old, size_t count, size_t size);
 /* Reads a whole file, or standard input for "-", onto the end of b. Returns DONE, or says why not. */
 int bytes_read(struct bytes *b, const char *path);
 
+/* The same of a file that may be longer, which is then not read to its end, but past a number of bytes. */
+int bytes_read_most(struct bytes *b, const char *path, size_t most);
+
 /* What messages call a file. */
 const char *input_name(const char *path);
 

@@ -23,7 +23,7 @@ static size_t differing(const uint8_t *before, const uint8_t *after, size_t from
     return end - from;
 }
 
-static void field_changes(FILE *out, struct field field, const uint8_t *before, const uint8_t *after)
+static void field_changes(FILE *out, int margin, struct field field, const uint8_t *before, const uint8_t *after)
 {
     before += field.place;
     after += field.place;
@@ -31,7 +31,7 @@ static void field_changes(FILE *out, struct field field, const uint8_t *before, 
         const size_t count = differing(before, after, i, field.size);
 
         if (count > 0) {
-            fprintf(out, "     %-10s  %0*zXh  ", field.name, field.digits, i);
+            fprintf(out, "%*s     %-10s  %0*zXh  ", margin, "", field.name, field.digits, i);
             print_side(out, before + i, count);
             fputs(" -> ", out);
             print_side(out, after + i, count);
@@ -41,40 +41,43 @@ static void field_changes(FILE *out, struct field field, const uint8_t *before, 
     }
 }
 
-static void register_changes(FILE *out, const uint8_t *before, const uint8_t *after)
+static void register_changes(FILE *out, int margin, const uint8_t *before, const uint8_t *after)
 {
     if (memcmp(before + TA1, after + TA1, 2) != 0)
-        fprintf(out, "     %-10s  %02X%02Xh -> %02X%02Xh\n", "TA", before[TA2], before[TA1], after[TA2], after[TA1]);
+        fprintf(out, "%*s     %-10s  %02X%02Xh -> %02X%02Xh\n", margin, "", "TA", before[TA2], before[TA1], after[TA2],
+                after[TA1]);
     if (before[ES] != after[ES]) {
-        fprintf(out, "     %-10s  %02Xh -> ", "E/S", before[ES]);
+        fprintf(out, "%*s     %-10s  %02Xh -> ", margin, "", "E/S", before[ES]);
         print_es(out, after[ES]);
         fputc('\n', out);
     }
 }
 
 /* Nothing, where the device is as it was. */
-static void device_changes(FILE *out, const struct device *before, const struct device *after)
+static void device_changes(FILE *out, int margin, const struct device *before, const struct device *after)
 {
     char name[DEVICE_TEXT];
 
     if (memcmp(before->body, after->body, kind_body_size(before->kind)) == 0)
         return;
     device_write(name, before);
-    fprintf(out, "  %s\n", name);
+    fprintf(out, "%*s  %s\n", margin, "", name);
     if (!before->kind->add_only)
-        register_changes(out, before->body, after->body);
+        register_changes(out, margin, before->body, after->body);
     for (size_t i = 0; i < FIELDS; i++)
-        field_changes(out, kind_field(before->kind, i), before->body, after->body);
+        field_changes(out, margin, kind_field(before->kind, i), before->body, after->body);
 }
 
-void report_changes(FILE *out, const struct bytes *before, const struct bytes *after)
+bool image_differs(const struct bytes *before, const struct bytes *after)
 {
-    const bool any = memcmp(before->data, after->data, before->length) != 0;
+    return memcmp(before->data, after->data, before->length) != 0;
+}
 
-    fputs(any ? "changed\n" : "nothing changed\n", out);
+void report_changes(FILE *out, int margin, const struct bytes *before, const struct bytes *after)
+{
     for (size_t i = 0; i < image_count(before); i++) {
         const struct device old = image_device(before, i), new = image_device(after, i);
 
-        device_changes(out, &old, &new);
+        device_changes(out, margin, &old, &new);
     }
 }

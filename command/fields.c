@@ -1,5 +1,7 @@
 #include "fields.h"
 
+#include "troughiron.h"
+
 struct field kind_field(const struct kind *kind, size_t index)
 {
     if (index == 1)
@@ -14,9 +16,13 @@ void print_es(FILE *out, uint8_t es)
     static const struct {
         uint8_t bit;
         const char *name;
-    } flags[] = { { 0x80, "AA (authorization accepted)" }, { 0x40, "OF (overflow)" }, { 0x20, "PF (partial byte)" } };
+    } flags[] = {
+        { TROUGHIRON_ES_AA, "AA (authorization accepted)" },
+        { TROUGHIRON_ES_OF, "OF (overflow)" },
+        { TROUGHIRON_ES_PF, "PF (partial byte)" },
+    };
 
-    fprintf(out, "%02Xh: ending offset %02Xh", es, es & 0x1F);
+    fprintf(out, "%02Xh: ending offset %02Xh", es, es & TROUGHIRON_ES_ENDING);
     for (size_t i = 0; i < sizeof flags / sizeof *flags; i++)
         if (es & flags[i].bit)
             fprintf(out, ", %s", flags[i].name);

@@ -13,8 +13,8 @@ static const char whole[] =
     "  search IMAGE           find the codes on the line\n"
     "  check CODE             check a registration code\n"
     "\n"
-    "  troughiron COMMAND --help    the options of a command\n"
-    "  troughiron --version         the version\n"
+    "  troughiron help COMMAND      the options of a command, as troughiron COMMAND --help\n"
+    "  troughiron -V, --version     the version\n"
     "\n"
     "A file named '-' is standard input or standard output.\n"
     "\n"
@@ -32,7 +32,9 @@ static const char new_help[] =
     "\n"
     "  --fill HH        fill memories with a byte; else 00, and FF for a DS1982\n"
     "  --memory FILE    the memory of every device without a FILE of its own\n"
-    "  --serial SERIAL  count serial numbers up from this one\n";
+    "  --serial SERIAL  count serial numbers up from this one\n"
+    "  --empty          a bench without devices\n"
+    "  -f, --force      replace IMAGE where it is an image; else no file that is there is replaced\n";
 
 static const char show_help[] =
     "usage: troughiron show IMAGE\n"
@@ -44,8 +46,10 @@ static const char run_help[] =
     "usage: troughiron run [OPTION...] IMAGE SESSION\n"
     "       troughiron run [OPTION...] IMAGE --trace FILE\n"
     "\n"
-    "Runs a session and prints each step with what was sent and what the line answered, then what changed in which device.\n"
-    "The image is left alone unless -o names it. Steps, one a line:\n"
+    "Runs a session and prints each step with what was sent and what the line answered, after each transaction, from one\n"
+    "reset to the next, what changed in which device, and at the end what changed in all. A '!' marks where the line was\n"
+    "not as the master wrote it.\n"
+    "The image is left alone unless -o names it. Steps, one a line, in small letters or capitals:\n"
     "  reset            reset and presence\n"
     "  skip             skip ROM: CC\n"
     "  match CODE       match ROM: 55 and a code, or #2 for the image's second device\n"
@@ -60,10 +64,11 @@ static const char run_help[] =
     "  --trace FILE         take raw events, a byte each, in place of a session\n"
     "  --answers FILE       write the answers, a byte for each event\n"
     "  --write-trace FILE   write the events, a byte each\n"
-    "  --vcd FILE           write the line as a waveform\n"
+    "  --vcd FILE           write the line as a waveform, with a save file for GTKWave (.gtkw) beside it\n"
     "  --bits               show every slot, not only bytes\n"
     "  --quiet              print no report\n"
-    "  --room N             lend the run N bytes for the answers; too few are refused (7)\n";
+    "  --room N             lend the run N bytes for the answers; too few are refused (7)\n"
+    "  -f, --force          replace files that are there, each only by its like; without it only -o IMAGE replaces one\n";
 
 static const char search_help[] =
     "usage: troughiron search [OPTION...] IMAGE\n"
@@ -72,13 +77,18 @@ static const char search_help[] =
     "\n"
     "  --answers FILE       write the answers that the master saw, a byte for each event\n"
     "  --write-trace FILE   write the events that it sent, a byte each\n"
-    "  --vcd FILE           write the line as a waveform\n";
+    "  --vcd FILE           write the line as a waveform, with a save file for GTKWave (.gtkw) beside it\n"
+    "  -f, --force          replace files that are there, each only by its like\n";
 
 static const char check_help[] =
     "usage: troughiron check CODE\n"
     "\n"
-    "Checks a registration code: family code, serial number as engraved, CRC; 16 hexadecimal digits, with blanks and\n"
-    "dashes between them as one likes. Ends with 0 for a valid code and with 3 for another.\n";
+    "Checks a registration code and says in which order it was read:\n"
+    "  08 000000000001 C6         family code, serial number as engraved, CRC\n"
+    "  08 01 00 00 00 00 00 C6    the bytes as the line has them; where the groups do not tell, the CRC does\n"
+    "  08.000000000001            without a CRC\n"
+    "with blanks, dashes, dots and colons between the digits, and a report's #1 and DS1992 beside them.\n"
+    "Ends with 0 for a valid code and with 3 for another.\n";
 
 const char *help_text(const char *command)
 {

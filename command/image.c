@@ -1,5 +1,6 @@
 #include "image.h"
 
+#include "cause.h"
 #include "code.h"
 #include "status.h"
 #include "troughiron.h"
@@ -21,7 +22,7 @@ int image_read(struct bytes *image, const char *path)
 
     const uint32_t refusal = image_refusal(image);
 
-    return refusal ? refused(input_name(path), refusal) : DONE;
+    return refusal ? image_refused(input_name(path), image, refusal) : DONE;
 }
 
 size_t image_count(const struct bytes *image)

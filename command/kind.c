@@ -1,12 +1,14 @@
 #include "kind.h"
 
+#include "troughiron.h"
+
 #include <string.h>
 #include <strings.h>
 
 static const struct kind kinds[] = {
-    { "DS1992", 0x08, false, SCRATCHPAD + PAGE_SIZE, 128 },
-    { "DS1993", 0x06, false, SCRATCHPAD + PAGE_SIZE, 512 },
-    { "DS1982", 0x09, true, STATUS + STATUS_SIZE, PAGES * PAGE_SIZE },
+    { "DS1992", TROUGHIRON_DS1992, false, SCRATCHPAD + PAGE_SIZE, 128 },
+    { "DS1993", TROUGHIRON_DS1993, false, SCRATCHPAD + PAGE_SIZE, 512 },
+    { "DS1982", TROUGHIRON_DS1982, true, STATUS + STATUS_SIZE, PAGES * PAGE_SIZE },
 };
 
 enum { KINDS = sizeof kinds / sizeof *kinds };

@@ -2,14 +2,11 @@
 #include "commands.h"
 #include "outputs.h"
 #include "status.h"
+#include "troughiron.h"
 
 #include <signal.h>
 #include <stdio.h>
 #include <string.h>
-
-#ifndef VERSION
-#define VERSION "unknown"
-#endif
 
 static int print(const char *text)
 {
@@ -17,12 +14,25 @@ static int print(const char *text)
     return report_flush(stdout);
 }
 
+static bool is_one_of(const char *word, const char *one, const char *other)
+{
+    return strcmp(word, one) == 0 || strcmp(word, other) == 0;
+}
+
 static bool asks_for_help(const struct words *words)
 {
     for (size_t i = 0; i < words->count && strcmp(words->list[i], "--") != 0; i++)
-        if (strcmp(words->list[i], "--help") == 0 || strcmp(words->list[i], "-h") == 0)
+        if (is_one_of(words->list[i], "--help", "-h"))
             return true;
     return false;
+}
+
+static int help(int count, char **words)
+{
+    const char *const command = count > 0 ? words[0] : "";
+    const char *const text = help_text(command);
+
+    return text ? print(text) : bad_usage("", "unknown command '%s'", command);
 }
 
 static int dispatch(struct words *words)
@@ -49,10 +59,12 @@ int main(int argc, char **argv)
     signal(SIGXFSZ, SIG_IGN);
     if (argc < 2)
         return bad_usage("", "a command expected");
-    if (strcmp(argv[1], "--version") == 0)
-        return print("troughiron " VERSION "\n");
-    if (strcmp(argv[1], "--help") == 0 || strcmp(argv[1], "-h") == 0)
+    if (is_one_of(argv[1], "--version", "-V"))
+        return print("troughiron " TROUGHIRON_VERSION "\n");
+    if (is_one_of(argv[1], "--help", "-h"))
         return print(help_text(""));
+    if (strcmp(argv[1], "help") == 0)
+        return help(argc - 2, argv + 2);
 
     struct words words = { .command = argv[1], .list = argv + 2, .count = (size_t)(argc - 2) };
 

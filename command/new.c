@@ -1,4 +1,5 @@
 /* troughiron new: an image with right codes, from a list of kinds. */
+#include "cause.h"
 #include "code.h"
 #include "commands.h"
 #include "image.h"
@@ -26,6 +27,8 @@ struct bench {
     bool filled; /* with fill, else as a new device is */
     uint8_t fill;
     const char *memory; /* a file for every device without one, or null */
+    bool empty;         /* no device is asked for */
+    struct replacing replacing;
 };
 
 /* ------------------------------------------------------------------ */
@@ -205,7 +208,7 @@ static int add_bodies(struct bytes *image, const struct bench *b)
 
 static int write_image(const struct bench *b, const char *path)
 {
-    struct outputs outputs = { 0 };
+    struct outputs outputs = { .replacing = b->replacing };
     struct bytes image = { 0 };
 
     add_table(&image, b);
@@ -214,9 +217,9 @@ static int write_image(const struct bench *b, const char *path)
     const uint32_t refusal = status == DONE ? image_refusal(&image) : 0;
 
     if (refusal)
-        status = refused(path, refusal);
+        status = image_refused(path, &image, refusal);
     if (status == DONE)
-        status = outputs_stage(&outputs, path, image.data, image.length);
+        status = outputs_stage(&outputs, path, HOLDS_IMAGE, image.data, image.length);
     if (status == DONE)
         status = outputs_commit(&outputs, stderr);
     outputs_free(&outputs);
@@ -238,6 +241,20 @@ static int settings_parse(struct bench *b, const char *fill, const char *serial)
     return DONE;
 }
 
+/* Nobody gets a bench without devices by leaving them out. */
+static int devices_parse(struct bench *b, const struct words *words)
+{
+    int status = DONE;
+
+    for (size_t i = 1; i < words->count && status == DONE; i++)
+        status = bench_add(b, words->list[i]);
+    if (status == DONE && !b->empty && b->count == 0)
+        return bad_usage("new", "a device expected, or --empty for a bench without any");
+    if (status == DONE && b->empty && b->count > 0)
+        return bad_usage("new", "--empty is for a bench without devices");
+    return status;
+}
+
 int new_command(struct words *words)
 {
     struct bench bench = { 0 };
@@ -246,6 +263,9 @@ int new_command(struct words *words)
         { "--fill", &fill, NULL },
         { "--serial", &serial, NULL },
         { "--memory", &bench.memory, NULL },
+        { "--empty", NULL, &bench.empty },
+        { "-f", NULL, &bench.replacing.forced },
+        { "--force", NULL, &bench.replacing.forced },
     };
     int status = options_take(words, options, sizeof options / sizeof *options);
 
@@ -253,8 +273,8 @@ int new_command(struct words *words)
         status = settings_parse(&bench, fill, serial);
     if (status == DONE && words->count < 1)
         status = words_wrong(words, "an image and devices");
-    for (size_t i = 1; i < words->count && status == DONE; i++)
-        status = bench_add(&bench, words->list[i]);
+    if (status == DONE)
+        status = devices_parse(&bench, words);
     if (status == DONE)
         status = check_memories(&bench);
     if (status != DONE)

@@ -4,23 +4,38 @@
 
 #include <string.h>
 
-/* The option that a word names, alone or with "=VALUE" after it. */
+/* What may stand right after the name of an option: nothing, "=VALUE" after a long one, a value after a short one. */
+static bool may_follow(const struct option *option, const char *rest)
+{
+    if (!*rest)
+        return true;
+    return option->name[1] == '-' ? *rest == '=' : !option->on;
+}
+
+/* The option that a word names, alone or with its value. */
 static const struct option *option_named(const char *word, const struct option *options, size_t count)
 {
     for (size_t i = 0; i < count; i++) {
         const size_t length = strlen(options[i].name);
 
-        if (strncmp(word, options[i].name, length) == 0 && (!word[length] || (word[1] == '-' && word[length] == '=')))
+        if (strncmp(word, options[i].name, length) == 0 && may_follow(&options[i], word + length))
             return &options[i];
     }
     return NULL;
 }
 
+/* The value in the word of an option itself, or null. */
+static const char *value_inside(const char *word, const struct option *option)
+{
+    const char *const rest = word + strlen(option->name);
+
+    return *rest ? rest + (option->name[1] == '-') : NULL;
+}
+
 /* Takes the option at place i; returns the number of words that it has, or 0. */
 static size_t option_take(const struct words *words, size_t i, const struct option *option)
 {
-    const char *const word = words->list[i];
-    const char *const inside = word[strlen(option->name)] ? word + strlen(option->name) + 1 : NULL;
+    const char *const inside = value_inside(words->list[i], option);
     const char *const value = inside ? inside : i + 1 < words->count ? words->list[i + 1] : NULL;
 
     if (option->on && inside) {

@@ -112,12 +112,13 @@ static int stage_new(struct output *o)
         errno = ENOENT;
         return bad_system(o->path);
     }
+    o->fresh = true;
     o->place = place_of_new(o->path);
     return o->place ? stage_beside(o, new_mode()) : bad_system(o->path);
 }
 
-/* A new file, or one that is there and may be written. */
-static int stage_file(struct output *o)
+/* A new file, or one that may be replaced. What is no file, as a device or a pipe, is written to and not replaced. */
+static int stage_file(struct output *o, const struct replacing *replacing)
 {
     struct stat there;
 
@@ -129,6 +130,8 @@ static int stage_file(struct output *o)
     }
     if (access(o->path, W_OK) != 0)
         return bad_system(o->path);
+    if (S_ISREG(there.st_mode) && replace_allowed(replacing, o->path, o->holding) != DONE)
+        return BAD;
     o->place = realpath(o->path, NULL);
     if (!o->place)
         return bad_system(o->path);
@@ -144,17 +147,17 @@ static int place_is_free(const struct outputs *o, const struct output *new)
     return DONE;
 }
 
-int outputs_stage(struct outputs *o, const char *path, const void *bytes, size_t length)
+int outputs_stage(struct outputs *o, const char *path, enum holding holding, const void *bytes, size_t length)
 {
     if (!path)
         return DONE;
 
     struct output *const new = &o->list[o->count++];
 
-    *new = (struct output){ .path = path, .bytes = bytes, .length = length };
+    *new = (struct output){ .path = path, .holding = holding, .bytes = bytes, .length = length };
     interrupt_defer();
 
-    const int status = strcmp(path, "-") == 0 ? DONE : stage_file(new);
+    const int status = strcmp(path, "-") == 0 ? DONE : stage_file(new, &o->replacing);
 
     return status == DONE ? place_is_free(o, new) : status;
 }
@@ -198,14 +201,33 @@ static int write_place(const struct output *o)
     return status;
 }
 
+/* A link, unlike a rename, replaces nothing that was put there meanwhile. Where the system has no links, a rename has to do. */
+static int put_new(const struct output *o)
+{
+    if (link(o->temporary, o->place) == 0) {
+        unlink(o->temporary);
+        return DONE;
+    }
+    if (errno == EEXIST)
+        return replace_refused(o->path);
+    return rename(o->temporary, o->place) == 0 ? DONE : bad_system(o->path);
+}
+
+static int put_again(const struct output *o)
+{
+    return rename(o->temporary, o->place) == 0 ? DONE : bad_system(o->path);
+}
+
 static int put_into_place(struct output *o)
 {
     if (!o->temporary)
         return write_place(o);
-    if (rename(o->temporary, o->place) != 0)
-        return bad_system(o->path);
-    sync_folder(o->temporary);
-    return DONE;
+
+    const int status = o->fresh ? put_new(o) : put_again(o);
+
+    if (status == DONE)
+        sync_folder(o->temporary);
+    return status;
 }
 
 int report_flush(FILE *report)

@@ -5,13 +5,17 @@
 #ifndef OUTPUTS_H
 #define OUTPUTS_H
 
+#include "replace.h"
+
 #include <stddef.h>
 #include <stdio.h>
 
-enum { MOST_OUTPUTS = 4 };
+enum { MOST_OUTPUTS = 6 };
 
 struct output {
     const char *path;
+    enum holding holding;
+    bool fresh; /* nothing is in the place */
     char *place;     /* path with its symbolic links followed */
     char *temporary; /* null where the place is written itself: standard output, a device, a pipe */
     const void *bytes;
@@ -21,13 +25,14 @@ struct output {
 struct outputs {
     struct output list[MOST_OUTPUTS];
     size_t count;
+    struct replacing replacing; /* of files that are there */
 };
 
 /*
  * Stages bytes, which must stay until the commit, for a path, or for standard output with "-". A path of null is none. Returns DONE, or
  * says why not.
  */
-int outputs_stage(struct outputs *o, const char *path, const void *bytes, size_t length);
+int outputs_stage(struct outputs *o, const char *path, enum holding holding, const void *bytes, size_t length);
 
 /* Flushes the report, then puts every file into its place. Returns DONE, or says why not. */
 int outputs_commit(struct outputs *o, FILE *report);

@@ -1,9 +1,11 @@
 #include "record.h"
 
+#include "gtkwave.h"
 #include "outputs.h"
 #include "status.h"
 #include "vcd.h"
 
+#include <stdlib.h>
 #include <string.h>
 
 /* How many of some paths are this one. */
@@ -29,26 +31,55 @@ FILE *record_report(const char *command, const struct record_paths *paths)
     return times_named(all, count, "-") ? stderr : stdout;
 }
 
+/* The waveform with what GTKWave needs beside it. */
+struct picture {
+    struct bytes vcd, save, steps;
+    char *save_path, *steps_path;
+};
+
+static void picture_draw(struct picture *p, const char *path, const struct session *s, const struct bytes *answers)
+{
+    vcd_write(&p->vcd, s, answers->data);
+    p->save_path = save_path(path);
+    p->steps_path = steps_path(path);
+    save_write(&p->save, path);
+    steps_write(&p->steps, s);
+}
+
+static void picture_free(struct picture *p)
+{
+    bytes_free(&p->vcd);
+    bytes_free(&p->save);
+    bytes_free(&p->steps);
+    free(p->save_path);
+    free(p->steps_path);
+}
+
 int record_write(const struct record_paths *paths, FILE *report, const struct session *s, const struct bytes *answers,
                  const struct bytes *image)
 {
-    struct outputs outputs = { 0 };
-    struct bytes vcd = { 0 };
+    struct outputs outputs = { .replacing = paths->replacing };
+    struct picture picture = { 0 };
 
     if (paths->vcd)
-        vcd_write(&vcd, s, answers->data);
+        picture_draw(&picture, paths->vcd, s, answers);
 
-    int status = outputs_stage(&outputs, paths->answers, answers->data, answers->length);
+    const struct {
+        const char *path;
+        enum holding holding;
+        const struct bytes *bytes;
+    } files[] = {
+        { paths->answers, HOLDS_ANSWERS, answers },         { paths->trace, HOLDS_TRACE, &s->events },
+        { paths->vcd, HOLDS_WAVEFORM, &picture.vcd },       { picture.save_path, HOLDS_SAVE, &picture.save },
+        { picture.steps_path, HOLDS_STEPS, &picture.steps }, { paths->image, HOLDS_IMAGE, image },
+    };
+    int status = DONE;
 
-    if (status == DONE)
-        status = outputs_stage(&outputs, paths->trace, s->events.data, s->events.length);
-    if (status == DONE)
-        status = outputs_stage(&outputs, paths->vcd, vcd.data, vcd.length);
-    if (status == DONE)
-        status = outputs_stage(&outputs, paths->image, image->data, image->length);
+    for (size_t i = 0; i < sizeof files / sizeof *files && status == DONE; i++)
+        status = outputs_stage(&outputs, files[i].path, files[i].holding, files[i].bytes->data, files[i].bytes->length);
     if (status == DONE)
         status = outputs_commit(&outputs, report);
     outputs_free(&outputs);
-    bytes_free(&vcd);
+    picture_free(&picture);
     return status;
 }

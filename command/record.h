@@ -3,13 +3,15 @@
 #define RECORD_H
 
 #include "bytes.h"
+#include "replace.h"
 #include "session.h"
 
 #include <stdio.h>
 
-/* Paths, "-" for standard output, or null. */
+/* Paths, "-" for standard output, or null; and what of the files that are there may be replaced. */
 struct record_paths {
     const char *image, *answers, *trace, *vcd;
+    struct replacing replacing;
 };
 
 /* Where the report goes: standard error where a file takes standard output. Null, with a word, where two files have the same place. */

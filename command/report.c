@@ -3,11 +3,12 @@
 #include "event.h"
 #include "progress.h"
 #include "style.h"
+#include "transactions.h"
 
 #include <string.h>
 
-/* Widths of the columns: the text of a step, and what was sent: eight bytes with blanks between them. */
-enum { TEXT = 28, SENT = 23, ROW_BYTES = 8, CELL = 32 };
+/* Widths of the columns: a step's number with two blanks, its text, and what was sent: eight bytes with blanks between. */
+enum { MARGIN = 7, TEXT = 28, SENT = 23, ROW_BYTES = 8, CELL = 32 };
 
 /* ------------------------------------------------------------------ */
 /* Rows: the events that are shown together                            */
@@ -93,34 +94,80 @@ static void print_label(FILE *out, const struct step *step, bool first)
         fprintf(out, "%5zu  %s\n%5s  %-*s  ", step->line, step->text, "", TEXT, "");
 }
 
-static void print_step(FILE *out, const struct step *step, const uint8_t *events, const uint8_t *answers, bool bits)
+/* Where the line was not as the master wrote it: a mark, and the bytes or slots of the row, counted from 1. */
+static void print_mark(FILE *out, const uint8_t *events, const uint8_t *answers, size_t count, bool bits)
 {
-    const size_t end = step->first + step->count, most = bits ? 1 : ROW_BYTES;
-    const bool colour = style_wanted(out);
+    const size_t width = count < 8 || bits ? 1 : 8;
+    const char *before = width == 1 ? "  ! not as sent: slot " : "  ! not as sent: byte ";
+
+    for (size_t i = 0; i < count; i += width)
+        if (memcmp(events + i, answers + i, width) != 0) {
+            fprintf(out, "%s%zu", before, i / width + 1);
+            before = ", ";
+        }
+}
+
+/* What is needed to print a row. */
+struct report {
+    FILE *out;
+    const uint8_t *events, *answers;
+    bool bits, colour, changed;
+    struct transactions transactions;
+};
+
+/* What the transaction that ends at a place changed, under its steps. */
+static void print_changes(struct report *r, size_t end)
+{
+    if (!transactions_next(&r->transactions, end))
+        return;
+    fprintf(r->out, "%*schanged\n", MARGIN, "");
+    report_changes(r->out, MARGIN, &r->transactions.before, &r->transactions.after);
+    r->changed = true;
+}
+
+static void print_row(struct report *r, const struct step *step, size_t from, size_t to)
+{
+    const uint8_t event = r->events[from];
+    char sent[CELL], answered[CELL];
+
+    write_sent(sent, r->events + from, to - from, r->bits);
+    write_answered(answered, event, r->answers + from, to - from, r->bits);
+    print_label(r->out, step, from == step->first);
+    fprintf(r->out, "%-*s  ", SENT, sent);
+    style_bright(r->out, r->colour && is_slot(event) && strcmp(sent, answered) != 0, answered);
+    if (is_slot(event) && step->written)
+        print_mark(r->out, r->events + from, r->answers + from, to - from, r->bits);
+    fputc('\n', r->out);
+}
+
+static void print_step(struct report *r, const struct step *step)
+{
+    const size_t end = step->first + step->count;
 
     for (size_t i = step->first, next; i < end; i = next) {
-        char sent[CELL], answered[CELL];
-
-        next = row_end(events, i, end, most);
-        write_sent(sent, events + i, next - i, bits);
-        write_answered(answered, events[i], answers + i, next - i, bits);
-        print_label(out, step, i == step->first);
-        fprintf(out, "%-*s  ", SENT, sent);
-        style_bright(out, colour && is_slot(events[i]) && strcmp(sent, answered) != 0, answered);
-        fputc('\n', out);
+        next = row_end(r->events, i, end, r->bits ? 1 : ROW_BYTES);
+        if (r->events[i] == TROUGHIRON_RESET)
+            print_changes(r, i + 1);
+        print_row(r, step, i, next);
     }
 }
 
-void report_steps(FILE *out, const struct session *s, const uint8_t *answers, bool bits)
+bool report_steps(FILE *out, const struct session *s, const uint8_t *answers, const struct bytes *image, bool bits)
 {
     struct progress progress = progress_start("events shown", s->events.length);
+    struct report r = { .out = out, .events = s->events.data, .answers = answers, .bits = bits };
 
+    r.colour = style_wanted(out);
+    r.transactions = transactions_of(image, &s->events);
     fprintf(out, "%5s  %-*s  %-*s  %s\n", s->unit, TEXT, "step", SENT, "sent", "answered");
     for (size_t i = 0; i < s->count; i++) {
-        print_step(out, &s->steps[i], s->events.data, answers, bits);
+        print_step(&r, &s->steps[i]);
         progress_at(&progress, s->steps[i].first + s->steps[i].count);
     }
+    print_changes(&r, s->events.length);
     progress_end(&progress);
+    transactions_free(&r.transactions);
+    return r.changed;
 }
 
 void report_number(FILE *out, uint64_t number, const char *one, const char *many)

@@ -1,4 +1,5 @@
 /* troughiron run: a session on the devices of an image. */
+#include "cause.h"
 #include "commands.h"
 #include "image.h"
 #include "record.h"
@@ -35,6 +36,7 @@ static int take_words(struct run *r, const struct words *words, const char *trac
     if (words->count != (trace ? 1 : 2))
         return words_wrong(words, trace ? "one image" : "an image and a session");
     r->image_path = words->list[0];
+    r->paths.replacing.own = r->image_path;
     r->session_path = trace ? trace : words->list[1];
     return same_standard_input(r);
 }
@@ -73,18 +75,24 @@ static int run_events(struct run *r)
                                             r->answers.length);
 
     if (refusal)
-        return refused(r->session.name, refusal);
+        return run_refused(&r->session, &r->image, r->answers.length, refusal);
     if (r->answers.length > events->length)
         r->answers.length = events->length;
     return DONE;
 }
 
+/* What every transaction changed, and what they changed in all, which can be nothing. */
 static void report(const struct run *r)
 {
-    report_steps(r->report, &r->session, r->answers.data, r->bits);
+    const bool changed = report_steps(r->report, &r->session, r->answers.data, &r->before, r->bits);
+
     fputc('\n', r->report);
     report_counts(r->report, &r->session.events);
-    report_changes(r->report, &r->before, &r->image);
+    if (image_differs(&r->before, &r->image))
+        fputs("changed in all\n", r->report);
+    else
+        fputs(changed ? "nothing changed in all\n" : "nothing changed\n", r->report);
+    report_changes(r->report, 0, &r->before, &r->image);
 }
 
 static int run_session(struct run *r, const char *room)
@@ -116,6 +124,8 @@ int run_command(struct words *words)
         { "--room", &room, NULL },
         { "--bits", NULL, &r.bits },
         { "--quiet", NULL, &r.quiet },
+        { "-f", NULL, &r.paths.replacing.forced },
+        { "--force", NULL, &r.paths.replacing.forced },
     };
     int status = options_take(words, options, sizeof options / sizeof *options);
 

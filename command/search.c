@@ -1,4 +1,5 @@
 /* troughiron search: the codes on the line, as a searching master finds them. */
+#include "cause.h"
 #include "code.h"
 #include "commands.h"
 #include "image.h"
@@ -71,7 +72,7 @@ static int record_search(const struct found *f, struct bytes *image, const struc
 
     const uint32_t refusal = troughiron_run(image->data, image->length, session.events.data, session.events.length,
                                             answers.data, answers.length);
-    const int status = refusal ? refused("search", refusal) : record_write(paths, report, &session, &answers, image);
+    const int status = refusal ? run_refused(&session, image, answers.length, refusal) : record_write(paths, report, &session, &answers, image);
 
     bytes_free(&answers);
     session_free(&session);
@@ -88,7 +89,7 @@ static int search_image(const char *path, const struct record_paths *paths, FILE
         const uint32_t refusal = troughiron_search(image.data, image.length, found.codes, sizeof found.codes, found.trace,
                                                    sizeof found.trace, &found.passes, &found.resets, &found.slots);
 
-        status = refusal ? refused(input_name(path), refusal) : DONE;
+        status = refusal ? image_refused(input_name(path), &image, refusal) : DONE;
     }
     if (status == DONE) {
         report_codes(report, &found, &image);
@@ -105,6 +106,8 @@ int search_command(struct words *words)
         { "--answers", &paths.answers, NULL },
         { "--write-trace", &paths.trace, NULL },
         { "--vcd", &paths.vcd, NULL },
+        { "-f", NULL, &paths.replacing.forced },
+        { "--force", NULL, &paths.replacing.forced },
     };
     const int status = options_take(words, options, sizeof options / sizeof *options);
 

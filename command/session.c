@@ -5,10 +5,10 @@
 #include "image.h"
 #include "status.h"
 
-#include <stdbool.h>
 #include <stdio.h>
 #include <stdlib.h>
 #include <string.h>
+#include <strings.h>
 
 /* ROM commands that have a word of their own. */
 enum { SKIP_ROM = 0xCC, MATCH_ROM = 0x55 };
@@ -245,17 +245,22 @@ static int read_step(struct reader *r)
     static const struct {
         const char *word;
         int (*read)(struct reader *r);
+        bool written;
     } steps[] = {
-        { "reset", read_reset }, { "skip", read_skip }, { "match", read_match }, { "send", read_send },
-        { "bits", read_bits },   { "read", read_read }, { "pulse", read_pulse }, { "events", read_events },
+        { "reset", read_reset, false }, { "skip", read_skip, true },  { "match", read_match, true },
+        { "send", read_send, true },    { "bits", read_bits, true },  { "read", read_read, false },
+        { "pulse", read_pulse, false }, { "events", read_events, false },
     };
     const char *const word = next_word(r);
     char room[SHOWN_ROOM];
 
     for (size_t i = 0; i < sizeof steps / sizeof *steps; i++)
-        if (strcmp(word, steps[i].word) == 0)
+        if (strcasecmp(word, steps[i].word) == 0) {
+            r->session->steps[r->session->count - 1].written = steps[i].written;
             return steps[i].read(r);
-    return bad_line(r->session->name, r->line, "unknown step '%s'", shown(room, word));
+        }
+    return bad_line(r->session->name, r->line,
+                    "unknown step '%s'; steps are reset, skip, match, send, bits, read, pulse and events", shown(room, word));
 }
 
 /* Where a comment starts, or the end: # at the start of a line, or # with a blank or nothing after it; "#2" is a device. */
@@ -301,21 +306,37 @@ static int read_line(struct session *s, const struct bytes *image, size_t number
     return read_step(&r);
 }
 
+/* The mark that some editors put before a text. */
+static const char byte_order_mark[] = { '\xEF', '\xBB', '\xBF' };
+
+static char *past_mark(char *text, size_t length)
+{
+    const bool marked = length >= sizeof byte_order_mark && memcmp(text, byte_order_mark, sizeof byte_order_mark) == 0;
+
+    return marked ? text + sizeof byte_order_mark : text;
+}
+
+/* Every bad line is said, and one of them is enough for a bad session. */
 static int read_lines(struct session *s, const struct bytes *image, char *text, size_t length)
 {
     char *const end = text + length;
     int status = DONE;
 
-    for (size_t number = 1; text < end && status == DONE; number++) {
+    text = past_mark(text, length);
+    for (size_t number = 1; text < end; number++) {
         char *const newline = memchr(text, '\n', (size_t)(end - text));
         char *const stop = newline ? newline : end;
 
-        if (memchr(text, '\0', (size_t)(stop - text)))
-            return bad_line(s->name, number, "not text: there is a zero byte");
         *stop = '\0';
-        status = read_line(s, image, number, text);
-        if (status == DONE && s->events.length > FAR_TOO_LONG)
-            return bad_line(s->name, number, "over %d events", FAR_TOO_LONG);
+        if (strlen(text) < (size_t)(stop - text))
+            status = bad_line(s->name, number, "not text: there is a zero byte");
+        else if (read_line(s, image, number, text) != DONE)
+            status = BAD;
+        if (s->events.length > FAR_TOO_LONG) {
+            s->events.length = FAR_TOO_LONG + 1;
+            s->cut = true;
+            return status;
+        }
         text = stop + 1;
     }
     return status;
@@ -359,10 +380,14 @@ static const char *raw_text(uint8_t event)
 int session_read_raw(struct session *s, const char *path)
 {
     struct bytes events = { 0 };
-    const int status = bytes_read(&events, path);
+    const int status = bytes_read_most(&events, path, FAR_TOO_LONG);
 
     s->name = input_name(path);
     s->unit = "event";
+    s->raw = true;
+    s->cut = events.length > FAR_TOO_LONG;
+    if (s->cut)
+        events.length = FAR_TOO_LONG + 1;
     for (size_t i = 0, end; status == DONE && i < events.length; i = end) {
         const char *const text = raw_text(events.data[i]);
 

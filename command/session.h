@@ -7,10 +7,13 @@
 
 #include "bytes.h"
 
+#include <stdbool.h>
+
 struct step {
     size_t line; /* of the text, from 1; for raw events the place of the first, from 0 */
     char *text;
     size_t first, count; /* events */
+    bool written;        /* its slots are written by the master, and not there to be read */
 };
 
 struct session {
@@ -19,6 +22,8 @@ struct session {
     struct bytes events;
     struct step *steps;
     size_t count, room;
+    bool raw; /* events that were no text */
+    bool cut; /* there is more of the text, but no trace is that long */
 };
 
 /* Reads a session. A device "#2" of a match is one of the image. Returns DONE, or says why not. */

@@ -51,25 +51,14 @@ int bad_usage(const char *command, const char *format, ...)
     return USAGE;
 }
 
-const char *refusal_cause(uint32_t refusal)
+int refused(const char *file, uint32_t refusal, const char *format, ...)
 {
-    static const char *const causes[] = {
-        "not refused",
-        "image shorter than its table of contents, over 64 devices, edition not 1, a nonzero second entry byte, or an unknown family",
-        "an offset or the length of the image differs from the packed layout",
-        "a code's CRC is wrong, or its family byte is not its entry's",
-        "two devices have the same code",
-        "trace of over 32768 events, or with a byte over 3",
-        "a program pulse while some device is not a DS1982",
-        "less room than the answers need",
-    };
+    va_list arguments;
 
-    return refusal < sizeof causes / sizeof *causes ? causes[refusal] : "unknown refusal";
-}
-
-int refused(const char *file, uint32_t refusal)
-{
-    fprintf(stderr, "troughiron: %s: refusal %u: %s\n", file, (unsigned)refusal, refusal_cause(refusal));
+    fprintf(stderr, "troughiron: %s: refusal %u: ", file, (unsigned)refusal);
+    va_start(arguments, format);
+    say(format, arguments);
+    va_end(arguments);
     return REFUSED + (int)refusal;
 }
 

@@ -19,10 +19,7 @@ int bad(const char *format, ...) __attribute__((format(printf, 1, 2)));
 int bad_line(const char *file, size_t line, const char *format, ...) __attribute__((format(printf, 3, 4)));
 int bad_system(const char *file); /* with the cause in errno */
 int bad_usage(const char *command, const char *format, ...) __attribute__((format(printf, 2, 3)));
-int refused(const char *file, uint32_t refusal);
-
-/* The cause of a refusal, in words. */
-const char *refusal_cause(uint32_t refusal);
+int refused(const char *file, uint32_t refusal, const char *format, ...) __attribute__((format(printf, 3, 4)));
 
 /* Ends the program: no memory is left. Files are replaced only after the last allocation. */
 _Noreturn void out_of_memory(void);

@@ -5,7 +5,8 @@
 
 /* Nominal times in microseconds, each within what the data sheets ask for. */
 enum {
-    IDLE = 100,         /* before the first event and after the last */
+    LEAD = 1,           /* before the first event, so that its edge is one */
+    IDLE = 100,         /* after the last */
     SLOT = 70,          /* 60 and the recovery */
     LOW_ONE = 6,        /* the master's low of a write-one or read slot */
     LOW_ZERO = 60,      /* the master's low of a write-zero slot */
@@ -18,14 +19,18 @@ enum {
     PULSE = 480
 };
 
-enum { LINE, MASTER, PULSES, WIRES };
+/* The number of no step. */
+enum { NO_STEP = -1 };
+
+enum { LINE, MASTER, PULSES, MARK, WIRES };
 
 /* Names of signals in the dump: letters that no value starts with. */
-static const char wires[WIRES] = { 'l', 'm', 'p' };
+static const char wires[WIRES] = { 'l', 'm', 'p', 'k' };
 static const char steps = 't';
 
 struct dump {
     struct bytes *out;
+    int mark;
     unsigned long long now;
     unsigned long long stamped; /* the time last written, plus one */
 };
@@ -46,27 +51,29 @@ static void set(struct dump *d, int wire, int level)
 static void head(struct bytes *out)
 {
     bytes_print(out,
-                "$version troughiron $end\n"
+                VCD_START
                 "$comment 1-Wire at standard speed, nominal widths $end\n"
                 "$timescale 1 us $end\n"
-                "$scope module bench $end\n"
+                "$scope module " VCD_SCOPE " $end\n"
                 "$var wire 1 %c line $end\n"
                 "$var wire 1 %c master $end\n"
                 "$var wire 1 %c pulse $end\n"
-                "$var string 1 %c step $end\n"
+                "$var wire 1 %c mark $end\n"
+                "$var real 64 %c step $end\n"
                 "$upscope $end\n"
                 "$enddefinitions $end\n",
-                wires[LINE], wires[MASTER], wires[PULSES], steps);
+                wires[LINE], wires[MASTER], wires[PULSES], wires[MARK], steps);
 }
 
-/* A string has no blanks in a dump. */
-static void mark(struct dump *d, const struct session *s, const struct step *step)
+/*
+ * A step is a number, and its text stands beside the dump: of a string, which GTKWave knows, sigrok warns at every
+ * change. A number it passes over, so the mark shows there where steps start.
+ */
+static void mark(struct dump *d, long long step)
 {
-    stamp(d);
-    bytes_print(d->out, "s%s_%zu:_", s->unit, step->line);
-    for (const char *c = step->text; *c; c++)
-        bytes_repeat(d->out, *c > ' ' && *c <= '~' ? (uint8_t)*c : '_', 1);
-    bytes_print(d->out, " %c\n", steps);
+    d->mark = !d->mark;
+    set(d, MARK, d->mark);
+    bytes_print(d->out, "r%lld %c\n", step, steps);
 }
 
 /* Lets go of the line: the master after one time, the wire after another, and nothing more up to the end. */
@@ -127,14 +134,15 @@ static void draw(struct dump *d, uint8_t event, uint8_t answer)
 static void start(struct dump *d)
 {
     head(d->out);
-    bytes_print(d->out, "#0\n$dumpvars\n1%c\n1%c\n0%c\nsidle %c\n$end\n", wires[LINE], wires[MASTER], wires[PULSES], steps);
-    d->now = IDLE;
+    bytes_print(d->out, "#0\n$dumpvars\n1%c\n1%c\n0%c\n0%c\nr%d %c\n$end\n", wires[LINE], wires[MASTER], wires[PULSES],
+                wires[MARK], NO_STEP, steps);
+    d->now = LEAD;
 }
 
 static void finish(struct dump *d)
 {
-    stamp(d);
-    bytes_print(d->out, "sidle %c\n#%llu\n", steps, d->now + IDLE);
+    mark(d, NO_STEP);
+    bytes_print(d->out, "#%llu\n", d->now + IDLE);
 }
 
 void vcd_write(struct bytes *out, const struct session *s, const uint8_t *answers)
@@ -146,7 +154,7 @@ void vcd_write(struct bytes *out, const struct session *s, const uint8_t *answer
     start(&d);
     for (size_t i = 0; i < s->events.length; i++) {
         if (next < s->count && s->steps[next].first == i)
-            mark(&d, s, &s->steps[next++]);
+            mark(&d, (long long)s->steps[next++].line);
         draw(&d, s->events.data[i], answers[i]);
         progress_at(&progress, i + 1);
     }

@@ -5,9 +5,14 @@
 #include "bytes.h"
 #include "session.h"
 
+/* What every waveform of the command starts with, and the scope that its signals are in. */
+#define VCD_START "$version troughiron $end\n"
+#define VCD_SCOPE "bench"
+
 /*
- * Adds the waveform to out. Times are in microseconds at standard speed. Signals: line, what the wire does; master, what the master alone
- * does to it; pulse, the program pulse; step, the text of the step, blanks as underscores.
+ * Adds the waveform to out. Times are in microseconds at standard speed. Signals: line, what the wire does; master,
+ * what the master alone does to it; pulse, the program pulse; mark, which changes where a step starts; step, the number
+ * of the step.
  */
 void vcd_write(struct bytes *out, const struct session *s, const uint8_t *answers);
 

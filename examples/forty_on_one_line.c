@@ -1,12 +1,13 @@
 /*
- * Forty devices of three kinds on one line. A search finds each code once, in the order of its bits from bit 0 on, 0 before 1; the trace that
- * it sent is run again on the same bench and answers what the search saw.
+ * Forty devices of three kinds on one line. A search finds each code once, in the order of its bits from bit 0 on, 0
+ * before 1; the trace that it sent is run again on the same bench and answers what the search saw. A host's own search,
+ * slot by slot over a line, finds the same.
  */
+#include "line.h"
+
 #include <stdio.h>
 #include <stdlib.h>
 #include <string.h>
-
-#include "troughiron.h"
 
 enum { DEVICES = 40, ENTRY = 4, CODE = 8, PASS = 201, ROOM = 2 + DEVICES * (ENTRY + 555) };
 
@@ -16,7 +17,8 @@ struct kind {
     const char *name;
 };
 
-static const struct kind kinds[] = {{0x08, 171, "DS1992"}, {0x06, 555, "DS1993"}, {0x09, 144, "DS1982"}};
+static const struct kind kinds[] = {
+    {TROUGHIRON_DS1992, 171, "DS1992"}, {TROUGHIRON_DS1993, 555, "DS1993"}, {TROUGHIRON_DS1982, 144, "DS1982"}};
 
 /* The CRC-8 of a registration code, as a host has it. */
 static uint8_t crc8(const uint8_t *bytes, size_t n)
@@ -87,22 +89,47 @@ static void check(const char *what, int fine)
         exit(1);
 }
 
-int main(void)
+/*
+ * One pass of a host's search: at a fork it goes as the last code did before the last fork, 1 at it, and 0 after it.
+ * Returns the fork where it took 0 last, -1 where there is none, or -2 where the line answers nothing or is refused.
+ */
+static int host_pass(struct line *l, uint8_t code[CODE], int last_fork)
 {
-    static uint8_t image[ROOM], before[ROOM], codes[CODE * DEVICES], trace[PASS * DEVICES], answers[PASS * DEVICES];
-    uint64_t passes, resets, slots;
-    size_t length = new_image(image);
-    memcpy(before, image, sizeof image);
-
-    uint32_t refusal = troughiron_search(image, length, codes, sizeof codes, trace, sizeof trace, &passes, &resets, &slots);
-    if (refusal) {
-        fprintf(stderr, "refused: %u\n", (unsigned)refusal);
-        return 1;
+    int fork = -1;
+    if (line_reset(l) != 1 || line_byte(l, 0xF0) < 0)
+        return -2;
+    for (int i = 0; i < 64; i++) {
+        int bit = line_bit(l, 1), complement = line_bit(l, 1);
+        if (bit < 0 || complement < 0 || (bit && complement))
+            return -2;
+        if (!bit && !complement) {
+            bit = i < last_fork ? code[i / 8] >> i % 8 & 1 : i == last_fork;
+            fork = bit ? fork : i;
+        }
+        code[i / 8] = (uint8_t)((code[i / 8] & ~(1 << i % 8)) | bit << i % 8);
+        if (line_bit(l, bit) != bit)
+            return -2;
     }
-    for (size_t i = 0; i < passes; i++)
-        print_code(codes + CODE * i);
-    printf("%llu passes, %llu resets, %llu slots\n", (unsigned long long)passes, (unsigned long long)resets, (unsigned long long)slots);
+    return fork;
+}
 
+/* Returns how many codes the host's search finds. */
+static size_t host_search(struct line *l, uint8_t codes[CODE * DEVICES])
+{
+    uint8_t code[CODE] = {0};
+    size_t found = 0;
+    int fork = -1;
+    do {
+        fork = host_pass(l, code, fork);
+        if (fork < -1 || found == DEVICES)
+            return 0;
+        memcpy(codes + CODE * found++, code, CODE);
+    } while (fork >= 0);
+    return found;
+}
+
+static void check_codes(const uint8_t *codes, uint64_t passes)
+{
     int ordered = 1, valid = 1;
     for (size_t i = 0; i < passes; i++) {
         ordered &= i == 0 || precedes(codes + CODE * (i - 1), codes + CODE * i);
@@ -111,12 +138,11 @@ int main(void)
     check("forty codes", passes == DEVICES);
     check("each valid", valid);
     check("each before the next", ordered);
+}
 
-    refusal = troughiron_run(image, length, trace, sizeof trace, answers, sizeof answers);
-    check("the trace runs again", refusal == 0);
-    check("image as it was", memcmp(image, before, sizeof image) == 0);
-
-    /* The directions of a pass are its code: what the master wrote is what the line answered in these slots. */
+/* The directions of a pass are its code: what the master wrote is what the line answered in these slots. */
+static void check_answers(const uint8_t *codes, uint64_t passes, const uint8_t *answers)
+{
     int same = 1;
     for (size_t pass = 0; pass < passes; pass++)
         for (size_t bit = 0; bit < 64; bit++) {
@@ -124,5 +150,40 @@ int main(void)
             same &= answers[slot] == (codes[CODE * pass + bit / 8] >> bit % 8 & 1);
         }
     check("the line answered each code", same);
+}
+
+static void check_own_search(const uint8_t *image, size_t length, const uint8_t codes[CODE * DEVICES])
+{
+    static struct line line;
+    uint8_t found[CODE * DEVICES];
+    check("the devices on a line", line_open(&line, image, length) == 0);
+    check("a host's own search", host_search(&line, found) == DEVICES);
+    check("it finds the same codes", memcmp(found, codes, sizeof found) == 0);
+}
+
+int main(void)
+{
+    static uint8_t image[ROOM], before[ROOM], codes[CODE * DEVICES], trace[PASS * DEVICES], answers[PASS * DEVICES];
+    uint64_t passes, resets, slots;
+    size_t length = new_image(image);
+    memcpy(before, image, sizeof image);
+
+    uint32_t refusal = troughiron_search(image, length, codes, sizeof codes, trace, sizeof trace, &passes, &resets,
+                                         &slots);
+    if (refusal) {
+        fprintf(stderr, "refused: %u\n", (unsigned)refusal);
+        return 1;
+    }
+    for (size_t i = 0; i < passes; i++)
+        print_code(codes + CODE * i);
+    printf("%llu passes, %llu resets, %llu slots\n", (unsigned long long)passes, (unsigned long long)resets,
+           (unsigned long long)slots);
+    check_codes(codes, passes);
+
+    refusal = troughiron_run(image, length, trace, sizeof trace, answers, sizeof answers);
+    check("the trace runs again", refusal == 0);
+    check("image as it was", memcmp(image, before, sizeof image) == 0);
+    check_answers(codes, passes, answers);
+    check_own_search(image, length, codes);
     return 0;
 }

@@ -1,12 +1,12 @@
 /*
- * Two DS1992 under one probe. Skip ROM addresses both: they take the same write, and every check that the host makes says fine. Match ROM
- * addresses one: only that one takes the record.
+ * Two DS1992 under one probe. Skip ROM addresses both: they take the same write, and every check that the host makes
+ * says fine. Match ROM addresses one: only that one takes the record.
  */
+#include "line.h"
+
 #include <stdio.h>
 #include <stdlib.h>
 #include <string.h>
-
-#include "troughiron.h"
 
 enum { BODY = 171, MEMORY = 43, FIRST = 10, LENGTH = FIRST + 2 * BODY };
 
@@ -33,80 +33,23 @@ static void new_image(uint8_t image[LENGTH])
     for (uint8_t i = 0; i < 2; i++) {
         size_t start = FIRST + (size_t)i * BODY;
         uint8_t *code = image + start;
-        image[2 + 4 * i] = 0x08;
+        image[2 + 4 * i] = TROUGHIRON_DS1992;
         image[2 + 4 * i + 2] = (uint8_t)(start % 256);
         image[2 + 4 * i + 3] = (uint8_t)(start / 256);
-        code[0] = 0x08;
+        code[0] = TROUGHIRON_DS1992;
         code[1] = i + 1;
         code[7] = crc8(code, 7);
     }
 }
 
-/* A session: the events of one transaction, from its reset on. */
-struct session {
-    uint8_t trace[1024];
-    uint8_t answers[1024];
-    size_t length;
-};
-
-static void event(struct session *s, uint8_t e)
+/* What the line returned, which is a refusal below 0. */
+static int taken(int result)
 {
-    if (s->length == sizeof s->trace) {
-        fprintf(stderr, "session too long\n");
+    if (result < 0) {
+        fprintf(stderr, "refused: %d\n", -result);
         exit(1);
     }
-    s->trace[s->length++] = e;
-}
-
-static void send(struct session *s, uint8_t byte)
-{
-    for (int bit = 0; bit < 8; bit++)
-        event(s, byte >> bit & 1);
-}
-
-static void send_all(struct session *s, const uint8_t *bytes, size_t n)
-{
-    for (size_t i = 0; i < n; i++)
-        send(s, bytes[i]);
-}
-
-/* A read is eight read slots for each byte; the byte is in the answers after the run. */
-static size_t read_slots(struct session *s, size_t n)
-{
-    size_t from = s->length;
-    for (size_t i = 0; i < 8 * n; i++)
-        event(s, TROUGHIRON_WRITE_ONE);
-    return from;
-}
-
-static uint8_t byte_read(const struct session *s, size_t from)
-{
-    uint8_t byte = 0;
-    for (int bit = 0; bit < 8; bit++)
-        byte |= (uint8_t)(s->answers[from + bit] << bit);
-    return byte;
-}
-
-/* Reset, then skip ROM, or match ROM with a code. */
-static void address(struct session *s, const uint8_t *code)
-{
-    s->length = 0;
-    event(s, TROUGHIRON_RESET);
-    if (code) {
-        send(s, 0x55);
-        send_all(s, code, 8);
-    } else {
-        send(s, 0xCC);
-    }
-}
-
-static void run(struct session *s, uint8_t image[LENGTH])
-{
-    uint32_t refusal = troughiron_run(image, LENGTH, s->trace, s->length, s->answers, sizeof s->answers);
-    if (refusal) {
-        fprintf(stderr, "refused: %u\n", (unsigned)refusal);
-        exit(1);
-    }
+    return result;
 }
 
 static void check(const char *what, int fine)
@@ -116,68 +59,82 @@ static void check(const char *what, int fine)
         exit(1);
 }
 
-static int has_record(const uint8_t image[LENGTH], int device)
+static void send_all(struct line *l, const uint8_t *bytes, size_t n)
 {
-    return memcmp(image + FIRST + device * BODY + MEMORY + 0x26, record, sizeof record) == 0;
+    for (size_t i = 0; i < n; i++)
+        taken(line_byte(l, bytes[i]));
+}
+
+/* Reset, then skip ROM, or match ROM with a code; returns whether there is a presence. */
+static int address(struct line *l, const uint8_t *code)
+{
+    int presence = taken(line_reset(l));
+    taken(line_byte(l, code ? 0x55 : 0xCC));
+    if (code)
+        send_all(l, code, 8);
+    return presence;
+}
+
+static int has_record(const struct line *l, int device)
+{
+    return memcmp(l->image + FIRST + device * BODY + MEMORY + 0x26, record, sizeof record) == 0;
+}
+
+static void show_memory(const struct line *l)
+{
+    for (int device = 0; device < 2; device++) {
+        const uint8_t *memory = l->image + FIRST + device * BODY + MEMORY;
+        printf("   device %d: %02X %02X, %s the record\n", device + 1, memory[0x26], memory[0x27],
+               has_record(l, device) ? "took" : "did not take");
+    }
 }
 
 /* Write scratchpad at 0026h, read it back, copy it; code is null for skip ROM. */
-static void store(uint8_t image[LENGTH], const uint8_t *code)
+static void store(struct line *l, const uint8_t *code)
 {
-    struct session s;
+    uint8_t read[5];
 
     printf("1. write scratchpad at 0026h: %02X %02X\n", record[0], record[1]);
-    address(&s, code);
-    send(&s, 0x0F);
-    send(&s, 0x26);
-    send(&s, 0x00);
-    send_all(&s, record, sizeof record);
-    run(&s, image);
-    check("presence", s.answers[0] == 0);
+    int presence = address(l, code);
+    send_all(l, (const uint8_t[]){0x0F, 0x26, 0x00}, 3);
+    send_all(l, record, sizeof record);
+    check("presence", presence);
 
     printf("2. read scratchpad\n");
-    address(&s, code);
-    send(&s, 0xAA);
-    size_t from = read_slots(&s, 5);
-    run(&s, image);
-    uint8_t ta1 = byte_read(&s, from), ta2 = byte_read(&s, from + 8), es = byte_read(&s, from + 16);
-    printf("   TA %02X%02Xh, E/S %02Xh, data %02X %02X\n", ta2, ta1, es, byte_read(&s, from + 24), byte_read(&s, from + 32));
-    check("target address", ta1 == 0x26 && ta2 == 0x00);
-    check("ending offset, no flags", es == 0x07);
-    check("data", byte_read(&s, from + 24) == record[0] && byte_read(&s, from + 32) == record[1]);
+    address(l, code);
+    send_all(l, (const uint8_t[]){0xAA}, 1);
+    taken(line_read(l, read, sizeof read));
+    printf("   TA %02X%02Xh, E/S %02Xh, data %02X %02X\n", read[1], read[0], read[2], read[3], read[4]);
+    check("target address", read[0] == 0x26 && read[1] == 0x00);
+    check("ending offset, no flags", read[2] == 0x07);
+    check("data", read[3] == record[0] && read[4] == record[1]);
 
-    printf("3. copy scratchpad with %02X %02X %02X\n", ta1, ta2, es);
-    address(&s, code);
-    send(&s, 0x55);
-    send(&s, ta1);
-    send(&s, ta2);
-    send(&s, es);
-    from = read_slots(&s, 1);
-    run(&s, image);
-    check("zeros after the copy", byte_read(&s, from) == 0x00);
+    printf("3. copy scratchpad with %02X %02X %02X\n", read[0], read[1], read[2]);
+    address(l, code);
+    send_all(l, (const uint8_t[]){0x55, read[0], read[1], read[2]}, 4);
+    taken(line_read(l, read, 1));
+    check("zeros after the copy", read[0] == 0x00);
 
     printf("4. memory at 0026h\n");
-    for (int device = 0; device < 2; device++) {
-        const uint8_t *memory = image + FIRST + device * BODY + MEMORY;
-        printf("   device %d: %02X %02X, %s the record\n", device + 1, memory[0x26], memory[0x27],
-               has_record(image, device) ? "took" : "did not take");
-    }
+    show_memory(l);
 }
 
 int main(void)
 {
+    static struct line line;
     uint8_t image[LENGTH];
 
     printf("Two DS1992 under one probe, skip ROM\n");
     new_image(image);
-    store(image, NULL);
+    taken(line_open(&line, image, LENGTH));
+    store(&line, NULL);
     printf("Every check said fine, and %s.\n\n",
-           has_record(image, 0) && has_record(image, 1) ? "both devices took the record" : "not both took it");
+           has_record(&line, 0) && has_record(&line, 1) ? "both devices took the record" : "not both took it");
 
     printf("Two DS1992 under one probe, match ROM of device 1\n");
-    new_image(image);
-    store(image, image + FIRST);
+    taken(line_open(&line, image, LENGTH));
+    store(&line, image + FIRST);
     printf("Every check said fine, and %s.\n",
-           has_record(image, 0) && !has_record(image, 1) ? "only device 1 took the record" : "that is not so");
+           has_record(&line, 0) && !has_record(&line, 1) ? "only device 1 took the record" : "that is not so");
     return 0;
 }

@@ -27,12 +27,45 @@
 extern "C" {
 #endif
 
+/* The version of this interface; the command's is the same. */
+#define TROUGHIRON_VERSION_MAJOR 0
+#define TROUGHIRON_VERSION_MINOR 1
+#define TROUGHIRON_VERSION_PATCH 0
+#define TROUGHIRON_VERSION "0.1.0"
+
 /* Events of a trace, one byte each. */
 enum {
     TROUGHIRON_WRITE_ZERO = 0, /* write-zero slot */
     TROUGHIRON_WRITE_ONE = 1,  /* write-one slot, which is also the read slot */
     TROUGHIRON_RESET = 2,      /* reset and presence */
     TROUGHIRON_PULSE = 3       /* program pulse: only where every device is a DS1982 */
+};
+
+/* Families, the first byte of an entry and of a code. */
+enum {
+    TROUGHIRON_DS1992 = 0x08,
+    TROUGHIRON_DS1993 = 0x06,
+    TROUGHIRON_DS1982 = 0x09
+};
+
+/* E/S of a DS1992 or DS1993: three flags, and the ending offset in the bits below them. */
+enum {
+    TROUGHIRON_ES_AA = 0x80,     /* authorization accepted: the scratchpad was copied */
+    TROUGHIRON_ES_OF = 0x40,     /* overflow: a bit was sent past the end of the scratchpad */
+    TROUGHIRON_ES_PF = 0x20,     /* partial byte: a reset came within a data byte */
+    TROUGHIRON_ES_ENDING = 0x1F  /* the ending offset */
+};
+
+/* What a call returns: a full answer, or a refusal. troughiron_run says below what each is the refusal of. */
+enum {
+    TROUGHIRON_ANSWERED = 0,
+    TROUGHIRON_REFUSED_TABLE = 1,
+    TROUGHIRON_REFUSED_LAYOUT = 2,
+    TROUGHIRON_REFUSED_CODE = 3,
+    TROUGHIRON_REFUSED_ALIKE = 4,
+    TROUGHIRON_REFUSED_TRACE = 5,
+    TROUGHIRON_REFUSED_PULSE = 6,
+    TROUGHIRON_REFUSED_ROOM = 7
 };
 
 /* The most events of a trace, and the most devices of an image. */

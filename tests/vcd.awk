@@ -3,6 +3,7 @@
 #   reset 480 us low or more; presence: 15 to 60 us high, then 60 to 240 us low
 #   slot: up to 15 us low a one; 60 to 120 us a zero of the master; between them a zero of a device
 #   program pulse: 480 us or more on the signal "pulse"
+# The first event comes 1 us after the start, "mark" changes with each number of "step", and there is nothing in the dump that sigrok warns of.
 
 function wrong(what) {
     print "vcd.awk: at " now " us: " what | "cat >&2"
@@ -38,11 +39,25 @@ function low(width) {
 }
 
 $1 == "$timescale" { if ($2 != "1" || $3 != "us") { now = 0; wrong("timescale " $2 $3) } }
-$1 == "$var" { name[$4] = $5 }
+$1 == "$var" {
+    name[$4] = $5
+    if ($2 != "wire" && $2 != "real") { now = 0; wrong("a signal that sigrok does not know: " $2) }
+}
+/^[^01#$r]/ { wrong("a value that sigrok does not know: " $0) }
+/^\$/ && body && $1 != "$dumpvars" && $1 != "$end" { wrong("a word that sigrok does not know: " $0) }
+$1 == "$enddefinitions" { body = 1 }
+/^r/ {
+    if (name[$2] != "step") wrong("a number of " name[$2])
+    if (marks != numbers) wrong("a step without a mark")
+    numbers++
+}
 /^#/ { now = substr($0, 2) + 0; if (now < last) wrong("time goes back"); last = now }
 /^[01]/ {
     signal = name[substr($0, 2)]
     level = substr($0, 1, 1)
+    if (now > 0 && !begun && now != 1) wrong("the first event comes late")
+    if (now > 0) begun = 1
+    if (signal == "mark" && level != mark) { marks += mark != ""; mark = level }
     if (signal == "line" && level != line) {
         if (level == 0) fell = now
         else if (line == "0") low(now - fell)
@@ -63,4 +78,5 @@ END {
     if (failed) exit 1
     close_reset()
     if (line != "1") { print "vcd.awk: the line ends low" | "cat >&2"; exit 1 }
+    if (numbers < 2) { print "vcd.awk: there is no step" | "cat >&2"; exit 1 }
 }

@@ -1,0 +1,190 @@
+#include "cause.h"
+
+#include "code.h"
+#include "image.h"
+#include "status.h"
+#include "troughiron.h"
+
+#include <stdio.h>
+#include <string.h>
+
+/* ------------------------------------------------------------------ */
+/* Of an image                                                         */
+
+static const uint8_t *entry_at(const struct bytes *image, size_t index)
+{
+    return image->data + TABLE + ENTRY_SIZE * index;
+}
+
+/* Entries and devices are counted from 1, bytes from 0. */
+static int entry_cause(const char *name, const struct bytes *image, uint32_t refusal)
+{
+    for (size_t i = 0; i < image_count(image); i++) {
+        const uint8_t *const entry = entry_at(image, i);
+        const size_t place = TABLE + ENTRY_SIZE * i;
+
+        if (entry[1] != 0)
+            return refused(name, refusal, "entry %zu: byte %zu is %02Xh and not 00h", i + 1, place + 1, entry[1]);
+        if (!kind_of_family(entry[0]))
+            return refused(name, refusal, "entry %zu: byte %zu, the family, is %02Xh and none of 08h, 06h and 09h",
+                           i + 1, place, entry[0]);
+    }
+    return refused(name, refusal, "the table of contents");
+}
+
+static int table_cause(const char *name, const struct bytes *image, uint32_t refusal)
+{
+    const size_t length = image->length, count = length > 0 ? image_count(image) : 0;
+    const size_t table = TABLE + ENTRY_SIZE * count;
+
+    if (length < TABLE)
+        return refused(name, refusal, "it has %zu byte%s, and an image 2 at least", length, length == 1 ? "" : "s");
+    if (image->data[1] != IMAGE_EDITION)
+        return refused(name, refusal, "byte 1, the edition, is %02Xh and not 01h", image->data[1]);
+    if (count > TROUGHIRON_MOST_DEVICES)
+        return refused(name, refusal, "byte 0 says %zu devices, and %d are the most", count,
+                       TROUGHIRON_MOST_DEVICES);
+    if (length < table)
+        return refused(name, refusal, "it has %zu bytes, and the table of contents of %zu device%s alone %zu",
+                       length, count, count == 1 ? "" : "s", table);
+    return entry_cause(name, image, refusal);
+}
+
+static int layout_cause(const char *name, const struct bytes *image, uint32_t refusal)
+{
+    const size_t count = image_count(image);
+    size_t offset = TABLE + ENTRY_SIZE * count;
+
+    for (size_t i = 0; i < count; i++) {
+        const uint8_t *const entry = entry_at(image, i);
+        const size_t given = entry[2] + 256u * entry[3], place = TABLE + ENTRY_SIZE * i + 2;
+
+        if (given != offset)
+            return refused(name, refusal, "entry %zu: bytes %zu and %zu say %zu, and its body has to be at %zu", i + 1,
+                           place, place + 1, given, offset);
+        offset += kind_body_size(kind_of_family(entry[0]));
+    }
+    return refused(name, refusal, "it has %zu bytes, and with %zu device%s it has to have %zu", image->length,
+                   count, count == 1 ? "" : "s", offset);
+}
+
+static int code_cause(const char *name, const struct bytes *image, uint32_t refusal)
+{
+    for (size_t i = 0; i < image_count(image); i++) {
+        const struct device device = image_device(image, i);
+        const size_t place = (size_t)(device.body - image->data);
+        uint8_t code[CODE_SIZE];
+        char text[CODE_TEXT];
+
+        memcpy(code, device.body, CODE_SIZE);
+        code_write(text, code);
+        if (code[0] != device.kind->family)
+            return refused(name, refusal, "#%zu: byte %zu, the family of its code, is %02Xh, and its entry says %02Xh",
+                           device.number, place, code[0], device.kind->family);
+        code_complete(code);
+        if (code[7] != device.body[7])
+            return refused(name, refusal, "#%zu: code %s: byte %zu, the CRC, has to be %02X", device.number, text,
+                           place + 7, code[7]);
+    }
+    return refused(name, refusal, "a code");
+}
+
+static int alike_cause(const char *name, const struct bytes *image, uint32_t refusal)
+{
+    for (size_t i = 0; i < image_count(image); i++)
+        for (size_t j = i + 1; j < image_count(image); j++) {
+            const struct device one = image_device(image, i), other = image_device(image, j);
+            char text[CODE_TEXT];
+
+            code_write(text, one.body);
+            if (memcmp(one.body, other.body, CODE_SIZE) == 0)
+                return refused(name, refusal, "#%zu and #%zu have the same code, %s", one.number, other.number, text);
+        }
+    return refused(name, refusal, "two codes");
+}
+
+int image_refused(const char *name, const struct bytes *image, uint32_t refusal)
+{
+    switch (refusal) {
+    case TROUGHIRON_REFUSED_TABLE:
+        return table_cause(name, image, refusal);
+    case TROUGHIRON_REFUSED_LAYOUT:
+        return layout_cause(name, image, refusal);
+    case TROUGHIRON_REFUSED_CODE:
+        return code_cause(name, image, refusal);
+    case TROUGHIRON_REFUSED_ALIKE:
+        return alike_cause(name, image, refusal);
+    default:
+        return refused(name, refusal, "no refusal of an image");
+    }
+}
+
+/* ------------------------------------------------------------------ */
+/* Of a run                                                            */
+
+/* Where an event is: "line 3" of a session, "byte 17" of raw events. */
+enum { WHERE = 32 };
+static void write_where(char where[WHERE], const struct session *s, size_t event)
+{
+    size_t i = 0;
+
+    while (i + 1 < s->count && s->steps[i + 1].first <= event)
+        i++;
+    if (s->raw)
+        snprintf(where, WHERE, "byte %zu", event);
+    else
+        snprintf(where, WHERE, "%s %zu", s->unit, s->steps[i].line);
+}
+
+/* The place of the first event of at least a number, or the number of events. */
+static size_t first_from(const struct bytes *events, uint8_t least)
+{
+    size_t i = 0;
+
+    while (i < events->length && events->data[i] < least)
+        i++;
+    return i;
+}
+
+static int trace_cause(const struct session *s, uint32_t refusal)
+{
+    const size_t count = s->events.length, place = first_from(&s->events, TROUGHIRON_PULSE + 1);
+    char where[WHERE];
+
+    if (count > TROUGHIRON_MOST_EVENTS) {
+        write_where(where, s, TROUGHIRON_MOST_EVENTS);
+        return refused(s->name, refusal, "%s%zu events, and %d are the most: %s goes past them",
+                       s->cut ? "over " : "", s->cut ? count - 1 : count, TROUGHIRON_MOST_EVENTS, where);
+    }
+    if (place == count)
+        return refused(s->name, refusal, "the trace");
+    write_where(where, s, place);
+    return refused(s->name, refusal, "%s: %u is no event; they are 0 to 3", where, s->events.data[place]);
+}
+
+static int pulse_cause(const struct session *s, const struct bytes *image, uint32_t refusal)
+{
+    char where[WHERE];
+    size_t i = 0;
+
+    while (i + 1 < image_count(image) && image_device(image, i).kind->add_only)
+        i++;
+    write_where(where, s, first_from(&s->events, TROUGHIRON_PULSE));
+    return refused(s->name, refusal, "%s: a program pulse, and #%zu is a %s", where, i + 1,
+                   image_device(image, i).kind->name);
+}
+
+int run_refused(const struct session *s, const struct bytes *image, size_t room, uint32_t refusal)
+{
+    switch (refusal) {
+    case TROUGHIRON_REFUSED_TRACE:
+        return trace_cause(s, refusal);
+    case TROUGHIRON_REFUSED_PULSE:
+        return pulse_cause(s, image, refusal);
+    case TROUGHIRON_REFUSED_ROOM:
+        return refused(s->name, refusal, "room for %zu answer%s, and there are %zu events", room, room == 1 ? "" : "s",
+                       s->events.length);
+    default:
+        return image_refused(s->name, image, refusal);
+    }
+}
