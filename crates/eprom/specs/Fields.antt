@@ -27,10 +27,6 @@ unfoldable pub fieldLength : Field → ℕ
 fieldLength Data = dataLength
 fieldLength Status = statusLength
 
--- the data has four pages of 32 bytes
-abbrev pub pageLength : ℕ
-pageLength = 32
-
 -- a body has its 8 code bytes and the two fields, the data last
 abbrev pub bodyLength : ℕ
 bodyLength = «data» + dataLength

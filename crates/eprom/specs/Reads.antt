@@ -5,13 +5,13 @@ use mathlib.Core.Bool.{Bool, cond}
 use mathlib.Core.List.{List}
 use lib.Dec.{ltb, eqb}
 use Rattle.bits.specs.Crc.{crcByte}
-use Rattle.kind.specs.Kind.{statusLength, dataLength}
+use Rattle.kind.specs.Kind.{statusLength, dataLength, pageLength}
 use Rattle.line.specs.Transfers.{waiting, sending, listening}
 use Rattle.line.specs.declared.EpromRead.{EpromRead}
 use Rattle.line.specs.declared.EpromRead.the-variants.{Memory as ReadMemory, Status as ReadStatus, Pages as ReadPages}
 use Rattle.line.specs.declared.EpromStage.the-variants.{ReadLow, ReadHigh, ReadCrc, ReadByte}
 use Rattle.line.specs.declared.Transfer.{Transfer}
-use Rattle.eprom.specs.Fields.{inEprom, fieldLength, pageLength, stored, fieldRead, readCommand, cut, commandCrc}
+use Rattle.eprom.specs.Fields.{inEprom, fieldLength, stored, fieldRead, readCommand, cut, commandCrc}
 
 -- the command is followed by the two bytes of the address
 abbrev pub readLow : EpromRead → Transfer

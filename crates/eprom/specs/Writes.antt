@@ -8,12 +8,13 @@ use lib.Bits.{bitAnd}
 use lib.Dec.{ltb}
 use Rattle.bits.specs.Bit.{bitOf}
 use Rattle.bits.specs.Crc.{crcByte}
+use Rattle.kind.specs.Kind.{pageLength}
 use Rattle.line.specs.Transfers.{waiting, sending, listening, listeningOnce}
 use Rattle.line.specs.declared.Field.{Field}
 use Rattle.line.specs.declared.Field.the-variants.{Data, Status}
 use Rattle.line.specs.declared.EpromStage.the-variants.{WriteLow, WriteHigh, WriteData, WriteCrc, PulseDue, Stored}
 use Rattle.line.specs.declared.Transfer.{Transfer}
-use Rattle.eprom.specs.Fields.{inEprom, fieldStart, fieldLength, pageLength, stored, writeCommand, cut}
+use Rattle.eprom.specs.Fields.{inEprom, fieldStart, fieldLength, stored, writeCommand, cut}
 use Rattle.eprom.specs.Fields.{commandCrc}
 
 -- the command is followed by the two bytes of the address

@@ -1,5 +1,7 @@
 // The two fields of a DS1982: where they stand in the body, the commands that read and write them, and the addresses in
 // them.
+use kind::DATA_LENGTH;
+use kind::STATUS_LENGTH;
 use line::EpromRead;
 use line::EpromStage;
 use line::Field;
@@ -8,13 +10,6 @@ use line::Stage;
 ghost use mathlib.Core.Path.{_≡_};
 ghost use Rattle.eprom.specs.Fields.{inEprom, fieldStart, fieldLength, stored, fieldRead, readCommand};
 ghost use Rattle.eprom.specs.Fields.{writeCommand, addressOf, cut, commandCrc};
-
-// The data, a page of it, and the status, in bytes.
-pub(crate) const DATA_LENGTH: u8 = 128;
-
-pub(crate) const PAGE_LENGTH: u8 = 32;
-
-pub(crate) const STATUS_LENGTH: u8 = 8;
 
 // A stage of a DS1982's memory function as a stage of a device.
 pub(crate) fn in_eprom(e: EpromStage) -> Stage

@@ -1,8 +1,5 @@
 // The reads F0h, AAh and C3h: a CRC, then bytes to the field's end and their CRC, with C3h page by page. The CRC
 // generator takes a whole byte when its transfer begins, so that the end of a transfer need not read the byte again.
-use crate::fields::DATA_LENGTH;
-use crate::fields::PAGE_LENGTH;
-use crate::fields::STATUS_LENGTH;
 use crate::fields::command_crc;
 use crate::fields::cut;
 use crate::fields::field_length;
@@ -10,6 +7,9 @@ use crate::fields::field_read;
 use crate::fields::in_eprom;
 use crate::fields::read_command;
 use crate::fields::stored;
+use kind::DATA_LENGTH;
+use kind::PAGE_LENGTH;
+use kind::STATUS_LENGTH;
 use line::EpromRead;
 use line::EpromStage;
 use line::Transfer;

@@ -1,7 +1,7 @@
 // The view of the bytes that a read has still to send.
-use crate::fields::DATA_LENGTH;
-use crate::fields::STATUS_LENGTH;
 use crate::fields::cut;
+use kind::DATA_LENGTH;
+use kind::STATUS_LENGTH;
 use line::Field;
 ghost use mathlib.Core.Path.{_≡_};
 ghost use Rattle.eprom.specs.View.{fieldsFit, bytesToRead, placeToRead};

@@ -1,5 +1,4 @@
 // The writes 0Fh and 55h: the address, then pass by pass a data byte, its CRC, the program pulse and the stored byte.
-use crate::fields::PAGE_LENGTH;
 use crate::fields::command_crc;
 use crate::fields::cut;
 use crate::fields::field_length;
@@ -7,6 +6,7 @@ use crate::fields::field_start;
 use crate::fields::in_eprom;
 use crate::fields::stored;
 use crate::fields::write_command;
+use kind::PAGE_LENGTH;
 use line::EpromStage;
 use line::Field;
 use line::Transfer;

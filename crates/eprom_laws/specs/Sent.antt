@@ -6,7 +6,8 @@ use Rattle.bits.specs.Crc.{crcOf}
 use Rattle.line.specs.declared.Field.{Field}
 use Rattle.line.specs.declared.EpromRead.{EpromRead}
 use Rattle.line.specs.declared.EpromRead.the-variants.{Memory as ReadMemory, Status as ReadStatus, Pages as ReadPages}
-use Rattle.eprom.specs.Fields.{fieldStart, fieldLength, fieldRead, pageLength, readCommand, commandCrc}
+use Rattle.kind.specs.Kind.{pageLength}
+use Rattle.eprom.specs.Fields.{fieldStart, fieldLength, fieldRead, readCommand, commandCrc}
 
 -- a field of the body
 unfoldable pub fieldOf : Field → List ℕ → List ℕ

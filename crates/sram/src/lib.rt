@@ -24,9 +24,6 @@ const OF: usize = 8 * kind::ES + 6;
 
 const AA: usize = 8 * kind::ES + 7;
 
-// The bytes of the scratchpad; an offset has five bits.
-const OFFSETS: u8 = 32;
-
 // The last of the three registers TA1, TA2, E/S.
 const LAST_REGISTER: u8 = 2;
 
@@ -58,13 +55,13 @@ fn target(body: &[u8]) -> u16
 fn target_offset(body: &[u8]) -> u8
     ensures { λ r. ⌜ r ≡ targetOffset (now (body .entry)) ⌝ }
 {
-    bits::byte_at(body, kind::TA1) % OFFSETS
+    bits::byte_at(body, kind::TA1) % kind::SCRATCHPAD_LENGTH
 }
 
 fn ending_offset(body: &[u8]) -> u8
     ensures { λ r. ⌜ r ≡ endingOffset (now (body .entry)) ⌝ }
 {
-    bits::byte_at(body, kind::ES) % OFFSETS
+    bits::byte_at(body, kind::ES) % kind::SCRATCHPAD_LENGTH
 }
 
 // ---- write scratchpad
@@ -80,7 +77,7 @@ fn write_data(offset: u8, bit: u8) -> Transfer
 fn after_data(offset: u8, bit: u8) -> Transfer
     ensures { λ r. ⌜ r ≡ afterData offset bit ⌝ }
 {
-    if OFFSETS <= offset {
+    if kind::SCRATCHPAD_LENGTH <= offset {
         return write_data(offset, bit);
     }
     if bit < 7 {
@@ -96,7 +93,7 @@ fn load_target(low: u8, high: u8, body: &mut [u8])
 {
     bits::put_byte(body, kind::TA1, low);
     bits::put_byte(body, kind::TA2, high);
-    bits::put_byte(body, kind::ES, low % OFFSETS);
+    bits::put_byte(body, kind::ES, low % kind::SCRATCHPAD_LENGTH);
 }
 
 // The first bit of a byte sets the ending offset; the flags stay.
@@ -106,7 +103,11 @@ fn begin_byte(offset: u8, bit: u8, body: &mut [u8])
 {
     if bit == 0 {
         let es = bits::byte_at(body, kind::ES);
-        bits::put_byte(body, kind::ES, es / OFFSETS * OFFSETS + offset);
+        bits::put_byte(
+            body,
+            kind::ES,
+            es / kind::SCRATCHPAD_LENGTH * kind::SCRATCHPAD_LENGTH + offset,
+        );
     }
 }
 
@@ -114,7 +115,7 @@ fn begin_byte(offset: u8, bit: u8, body: &mut [u8])
 fn write_bit(offset: u8, bit: u8, body: &mut [u8], level: bool)
     ensures { λ r. ⌜ now (body .exit) ≡ writeBit offset bit (now (body .entry)) level ⌝ }
 {
-    if OFFSETS <= offset {
+    if kind::SCRATCHPAD_LENGTH <= offset {
         bits::put_bit(body, OF, true);
         return;
     }
@@ -316,7 +317,7 @@ pub fn next(s: SramStage, size: u16, value: u8, body: &[u8]) -> Transfer
 {
     match s {
         SramStage::WriteLow => line::listening(in_sram(SramStage::WriteHigh { low: value })),
-        SramStage::WriteHigh { low } => write_data(low % OFFSETS, 0),
+        SramStage::WriteHigh { low } => write_data(low % kind::SCRATCHPAD_LENGTH, 0),
         SramStage::WriteData { offset, bit } => after_data(offset, bit),
         SramStage::ReadRegister { at } => after_register(at, body),
         SramStage::ReadScratchpad { offset } => after_scratchpad(offset, body),
@@ -374,10 +375,10 @@ pub fn reset(s: SramStage, body: &mut [u8])
 fn data_in_range(offset: u8, bit: u8) -> bool
     ensures { λ r. ⌜ r ≡ dataRange offset bit ⌝ }
 {
-    if offset < OFFSETS {
+    if offset < kind::SCRATCHPAD_LENGTH {
         bit < 8
     } else {
-        (offset == OFFSETS) & (bit == 0)
+        (offset == kind::SCRATCHPAD_LENGTH) & (bit == 0)
     }
 }
 
