@@ -9,7 +9,7 @@ use native.Mathlib.Numerals.{add-one}
 use lib.ListN.{length, getD, drop, drop-of-length-le, length-set, length-append, length-drop}
 use lib.Seq.{drop-cons, length-take-le}
 use lib.Dec.{ltb, leb, lit<}
-use borrow.Author.Tests.{leb-true, ltb-false, le-ltb}
+use borrow.Author.Tests.{leb-true, ltb-true, ltb-false, le-ltb}
 use Rattle.kind.specs.declared.Kind.the-variants.{Unknown}
 use Rattle.kind.specs.Kind.{bodySize}
 use Rattle.image.specs.Image.{countOf, kindAt, offsetAt}
@@ -21,7 +21,7 @@ use Rattle.device.proofs.Keeps.{slot-keeps, reset-keeps, program-keeps}
 use Rattle.bus.specs.declared.Event.{Event}
 use Rattle.bus.specs.declared.Event.the-variants.{Slot, Reset, Pulse}
 use Rattle.bus.specs.Bus.{Device, eventOf}
-use Rattle.bus.specs.Loops.{bodyAsItIs, idleIn, placeIn, deviceAt, deviceIn, withBody, turnImage, lineAt, servedOf, BusState, turnAt, turns, filled, RunState, eventAt, events}
+use Rattle.bus.specs.Loops.{bodyAsItIs, idleIn, placeIn, deviceAt, deviceIn, withBody, turnImage, lineAt, fewerOf, BusState, turnAt, turns, filled, RunState, eventAt, events}
 
 -- ---- the place of a body
 
@@ -186,15 +186,15 @@ unfolding turns turnAt
 turns-lines-length byte level zero s = refl
 turns-lines-length byte level (suc i) s = simp (length-set, turns-lines-length byte level i s)
 
--- ---- how many devices have a line state
+-- ---- the smaller of two numbers
 
-served-at : (lines n : ℕ) (b : Bool) → ltb lines n ≡ b → cond b lines n ≤ lines
-served-at lines n true e = omega arith
-served-at lines n false e = ltb-false lines n e
+fewer-at : (a b : ℕ) (t : Bool) → ltb a b ≡ t → cond t a b ≤ b
+fewer-at a b true e = let h : a < b = ltb-true a b e in omega arith
+fewer-at a b false e = omega arith
 
-pub served-lines : (image : List ℕ) (lines : ℕ) → servedOf image lines ≤ lines
-unfolding servedOf
-served-lines image lines = served-at lines (countOf image) (ltb lines (countOf image)) refl
+pub fewer-second : (a b : ℕ) → fewerOf a b ≤ b
+unfolding fewerOf
+fewer-second a b = fewer-at a b (ltb a b) refl
 
 -- ---- the run's state
 

@@ -8,14 +8,13 @@ use native.Mathlib.Omega.{arith}
 use lib.ListN.{length, take}
 use lib.Seq.{take-suc, take-all, take-length, length-take-le}
 use lib.Dec.{eqb, ltb}
-use borrow.Author.Tests.{ltb-true, ne-eqb}
-use Rattle.image.specs.Image.{countOf}
+use borrow.Author.Tests.{ltb-false, ne-eqb}
 use Rattle.device.specs.declared.LineState.{LineState}
 use Rattle.device.specs.Device.{waitingState, sendsAsIs}
-use Rattle.bus.specs.declared.Event.the-variants.{Pulse}
 use Rattle.bus.specs.Bus.{eventOf}
-use Rattle.bus.specs.Loops.{allHigh, nothingThere, levelAsItIs, levelOn, servedOf, askedOf, levelWhere, lineAt}
-use Rattle.bus.proofs.Laws.{served-lines}
+use Rattle.bus.specs.Loops.{allHigh, nothingThere, levelAsItIs, levelOn, fewerOf, askedOf, levelWhere, lineAt}
+use Rattle.bus.proofs.Idle.{event-pulse}
+use Rattle.bus.proofs.Laws.{fewer-second}
 
 -- whether the line is high in a slot with the first i devices on it
 unfoldable pub highWith : List LineState → ℕ → Bool
@@ -36,42 +35,31 @@ high-upto lines (suc i) h =
     ∙ sym (high-more (take i lines) (lineAt lines i))
     ∙ ap allHigh (sym (take-suc lines i waitingState h))
 
--- ---- how many devices are served
-pub served-take : (lines : List LineState) (n : ℕ) (b : Bool) → ltb (length lines) n ≡ b → take (cond b (length lines) n) lines ≡ take n lines
-served-take lines n true e =
-    let h : length lines < n = ltb-true (length lines) n e in
-    take-length lines ∙ sym (take-all n lines (omega arith))
-served-take lines n false e = refl
-
 nothing-is : (xs : List LineState) → eqb (length xs) 0 ≡ nothingThere xs
 unfolding nothingThere
 nothing-is [] = refl
 nothing-is (x ∷ xs) = ne-eqb (suc (length xs)) 0 (λ z. absurd (omega arith))
 
 -- ---- the loop, on the line states of n devices
-event-pulse : (byte : ℕ) → eventOf (suc (suc (suc byte))) ≡ Pulse
-unfolding eventOf
-event-pulse byte =
-    rw (
-      ne-eqb (suc (suc (suc byte))) 0 (λ z. absurd (omega arith)),
-      ne-eqb (suc (suc (suc byte))) 1 (λ z. absurd (omega arith)),
-      ne-eqb (suc (suc (suc byte))) 2 (λ z. absurd (omega arith)),
-    )
-
 at-event : (lines : List LineState) (byte n : ℕ) → n ≤ length lines
     → levelWhere (eventOf byte) n (highWith lines (askedOf byte n)) ≡ levelAsItIs (eventOf byte) (take n lines)
 unfolding eventOf levelWhere askedOf levelAsItIs
 at-event lines zero n h = refl
 at-event lines (suc zero) n h = high-upto lines n h
 at-event lines (suc (suc zero)) n h = ap (λ (m : ℕ). eqb m 0) (sym (length-take-le n lines h)) ∙ nothing-is (take n lines)
-at-event lines (suc (suc (suc byte))) n h = rw (event-pulse byte)
+at-event lines (suc (suc (suc byte))) n h = rw (event-pulse (suc (suc (suc byte))) (omega arith))
 
-pub level-loop : (image : List ℕ) (lines : List LineState) (byte : ℕ)
-    → levelWhere (eventOf byte) (servedOf image (length lines)) (highWith lines (askedOf byte (servedOf image (length lines)))) ≡ levelOn image lines byte
-unfolding levelOn servedOf
-level-loop image lines byte =
-    at-event lines byte (servedOf image (length lines)) (served-lines image (length lines))
-    ∙ ap (levelAsItIs (eventOf byte)) (served-take lines (countOf image) (ltb (length lines) (countOf image)) refl)
+-- as many line states are lent, or fewer
+pub fewer-take : (lines : List LineState) (n : ℕ) (b : Bool) → ltb n (length lines) ≡ b → take (cond b n (length lines)) lines ≡ take n lines
+fewer-take lines n true e = refl
+fewer-take lines n false e = take-length lines ∙ sym (take-all n lines (ltb-false n (length lines) e))
+
+pub level-loop : (lines : List LineState) (n byte : ℕ)
+    → levelWhere (eventOf byte) (fewerOf n (length lines)) (highWith lines (askedOf byte (fewerOf n (length lines)))) ≡ levelOn lines n byte
+unfolding levelOn fewerOf
+level-loop lines n byte =
+    at-event lines byte (fewerOf n (length lines)) (fewer-second n (length lines))
+    ∙ ap (levelAsItIs (eventOf byte)) (fewer-take lines n (ltb n (length lines)) refl)
 
 asked-at : (n : ℕ) (b : Bool) → cond b n 0 ≤ n
 asked-at n true = omega arith

@@ -11,9 +11,6 @@ use Rattle.bus.proofs.Lines.{R, line}
 abbrev pub waiting-shape : Shape
 waiting-shape = record { lifetimes = 0; outlives = []; kinds = []; gives = line }
 
-abbrev pub served-shape : Shape
-served-shape = record { lifetimes = 1; outlives = []; kinds = shrK 0 tt u8 ∷ dataK (num w64) ∷ []; gives = num w64 }
-
 abbrev pub asked-shape : Shape
 asked-shape = record { lifetimes = 0; outlives = []; kinds = dataK (num w8) ∷ dataK (num w64) ∷ []; gives = num w64 }
 
@@ -28,12 +25,35 @@ level-of-shape = record {
   gives = truth;
 }
 
-abbrev pub state-after-shape : Shape
-state-after-shape = record {
+abbrev pub device-count-shape : Shape
+device-count-shape = record {
   lifetimes = 1;
   outlives = [];
-  kinds = shrK 0 tt u8 ∷ dataK (num w64) ∷ dataK line
-      ∷ dataK (num w8) ∷ dataK truth ∷ [];
+  kinds = shrK 0 tt u8 ∷ [];
+  gives = num w64;
+}
+
+abbrev pub fewer-shape : Shape
+fewer-shape = record {
+  lifetimes = 0;
+  outlives = [];
+  kinds = dataK (num w64) ∷ dataK (num w64) ∷ [];
+  gives = num w64;
+}
+
+abbrev pub slot-shape : Shape
+slot-shape = record {
+  lifetimes = 1;
+  outlives = [];
+  kinds = mutK 0 tt u8 ∷ dataK (num w64) ∷ dataK line ∷ dataK truth ∷ [];
+  gives = line;
+}
+
+abbrev pub read-slot-shape : Shape
+read-slot-shape = record {
+  lifetimes = 1;
+  outlives = [];
+  kinds = shrK 0 tt u8 ∷ dataK (num w64) ∷ dataK line ∷ dataK truth ∷ [];
   gives = line;
 }
 
@@ -41,8 +61,15 @@ abbrev pub turn-shape : Shape
 turn-shape = record {
   lifetimes = 1;
   outlives = [];
-  kinds = mutK 0 tt u8 ∷ dataK (num w64) ∷ dataK line ∷ dataK (num w8)
-      ∷ dataK truth ∷ [];
+  kinds = mutK 0 tt u8 ∷ dataK (num w64) ∷ dataK line ∷ dataK (num w8) ∷ [];
+  gives = line;
+}
+
+abbrev pub read-turn-shape : Shape
+read-turn-shape = record {
+  lifetimes = 1;
+  outlives = [];
+  kinds = shrK 0 tt u8 ∷ dataK (num w64) ∷ dataK line ∷ dataK (num w8) ∷ [];
   gives = line;
 }
 
@@ -57,19 +84,17 @@ refusal-shape = record {
 
 abbrev pub level-shape : Shape
 level-shape = record {
-  lifetimes = 2;
+  lifetimes = 1;
   outlives = [];
-  kinds = shrK 0 tt u8 ∷ shrK 1 tt R ∷ dataK (num w8)
-      ∷ [];
+  kinds = shrK 0 tt R ∷ dataK (num w64) ∷ dataK (num w8) ∷ [];
   gives = truth;
 }
 
-abbrev pub step-all-shape : Shape
-step-all-shape = record {
+abbrev pub slot-all-shape : Shape
+slot-all-shape = record {
   lifetimes = 2;
   outlives = [];
-  kinds = shrK 0 tt u8 ∷ mutK 1 tt R ∷ dataK (num w8)
-      ∷ dataK truth ∷ [];
+  kinds = mutK 0 tt u8 ∷ mutK 1 tt R ∷ dataK (num w64) ∷ dataK truth ∷ [];
   gives = nil;
 }
 
@@ -77,8 +102,47 @@ abbrev pub turn-all-shape : Shape
 turn-all-shape = record {
   lifetimes = 2;
   outlives = [];
-  kinds = mutK 0 tt u8 ∷ mutK 1 tt R ∷ dataK (num w64)
-      ∷ dataK (num w8) ∷ dataK truth ∷ [];
+  kinds = mutK 0 tt u8 ∷ mutK 1 tt R ∷ dataK (num w64) ∷ dataK (num w8) ∷ [];
+  gives = nil;
+}
+
+abbrev pub step-event-shape : Shape
+step-event-shape = record {
+  lifetimes = 2;
+  outlives = [];
+  kinds = mutK 0 tt u8 ∷ mutK 1 tt R ∷ dataK (num w64) ∷ dataK (num w8) ∷ dataK truth ∷ [];
+  gives = nil;
+}
+
+abbrev pub read-slot-all-shape : Shape
+read-slot-all-shape = record {
+  lifetimes = 2;
+  outlives = [];
+  kinds = shrK 0 tt u8 ∷ mutK 1 tt R ∷ dataK (num w64) ∷ dataK truth ∷ [];
+  gives = nil;
+}
+
+abbrev pub read-turn-all-shape : Shape
+read-turn-all-shape = record {
+  lifetimes = 2;
+  outlives = [];
+  kinds = shrK 0 tt u8 ∷ mutK 1 tt R ∷ dataK (num w64) ∷ dataK (num w8) ∷ [];
+  gives = nil;
+}
+
+abbrev pub step-all-shape : Shape
+step-all-shape = record {
+  lifetimes = 2;
+  outlives = [];
+  kinds = shrK 0 tt u8 ∷ mutK 1 tt R ∷ dataK (num w64) ∷ dataK (num w8) ∷ dataK truth ∷ [];
+  gives = nil;
+}
+
+abbrev pub wait-all-shape : Shape
+wait-all-shape = record {
+  lifetimes = 1;
+  outlives = [];
+  kinds = mutK 0 tt R ∷ dataK (num w64) ∷ [];
   gives = nil;
 }
 
@@ -90,9 +154,6 @@ fill-shape = record {
       ∷ [];
   gives = nil;
 }
-
-abbrev pub wait-all-shape : Shape
-wait-all-shape = record { lifetimes = 2; outlives = []; kinds = shrK 0 tt u8 ∷ mutK 1 tt R ∷ []; gives = nil }
 
 abbrev pub run-events-shape : Shape
 run-events-shape = record {

@@ -9,7 +9,7 @@ use native.Mathlib.Numerals.{add-one}
 use lib.ListN.{length, getD, set, take, drop, replicate, length-append, length-map, length-replicate, take-append-drop, replicate-append-replicate, List·getD-append}
 use lib.Seq.{length-take-le, getD-take, take-at, drop-at, getD-at, set-at, drop-append-add, take-suc, drop-cons, append-snoc, take-length, drop-length, drop-drop}
 use lib.Dec.{T, eqb}
-use borrow.Author.Tests.{lt-ltb, le-ltb, le-leb}
+use borrow.Author.Tests.{lt-ltb, le-leb}
 use Rattle.kind.specs.declared.Kind.{Kind}
 use Rattle.kind.specs.declared.Kind.the-variants.{Unknown}
 use Rattle.kind.specs.Kind.{kindOf, bodySize, codeLength}
@@ -23,7 +23,7 @@ use Rattle.bits.specs.Bit.{levelByte}
 use Rattle.bus.specs.Bus.{Device, deviceWith, eventOf, levelOf, nextState, nextBody, nextDevice, busStepAt, busStep, Run, withAnswer, runTrace}
 use Rattle.bus.specs.Run.{devicesFrom, waitingDevices, tableOfContents, bodiesOf, statesOf, runOutcome, leftByRun, runAt, runOf, RunOutcome, RunLeaves}
 use Rattle.bus.specs.Refusal.{someByte, badTrace, badPulse, runRefusal}
-use Rattle.bus.specs.Loops.{idleIn, stateAsItIs, bodyAsItIs, placeIn, deviceAt, deviceIn, withBody, turnState, turnImage, levelAsItIs, levelOn, servedOf, lineAt, BusState, busState, turnAt, turns, filled, RunState, runState, eventAt, events}
+use Rattle.bus.specs.Loops.{idleIn, stateAsItIs, bodyAsItIs, placeIn, deviceAt, deviceIn, withBody, turnState, turnImage, levelAsItIs, levelOn, lineAt, BusState, busState, turnAt, turns, filled, RunState, runState, eventAt, events}
 use Rattle.device.proofs.Range.{waiting-in-range}
 use Rattle.bus.proofs.Laws.{admitted, not-refused}
 use Rattle.bus.proofs.Ranges.{InRange, AllIn, as-it-is-state, as-it-is-body, level-as-it-is, part-in, in-at, run-in}
@@ -256,12 +256,11 @@ module _ (image : List ℕ) (known : Known image) where
           (in-at xs d ys (subst AllIn cut (part-in (eventOf byte) level i ds ranged)))
           ∙ ap busStateOf (sym (ap (λ (l : List Device). map f l ++ ys) (take-suc ds i nobody h) ∙ ap (λ (l : List Device). l ++ ys) (map-append f (take i ds) (d ∷ [])) ∙ append-snoc xs (f d) ys))
 
-      pub level-is : (byte : ℕ) → levelOn (imageOf ds) (linesOf ds) byte ≡ levelOf (eventOf byte) ds
+      pub level-is : (byte : ℕ) → levelOn (linesOf ds) (countOf image) byte ≡ levelOf (eventOf byte) ds
       unfolding levelOn
       level-is byte =
           let len : length (statesOf ds) ≡ countOf image = length-map ds (λ (x : Device). x .state) ∙ all in
-          ap (λ (n : ℕ). levelAsItIs (eventOf byte) (take n (linesOf ds))) (count-kept ds)
-          ∙ ap (levelAsItIs (eventOf byte)) (take-at (statesOf ds) tail (countOf image) len)
+          ap (levelAsItIs (eventOf byte)) (take-at (statesOf ds) tail (countOf image) len)
           ∙ level-as-it-is (eventOf byte) ds ranged
 
       pub turned-is : (byte : ℕ) (level : Bool) → turns byte level (length ds) (busStateOf ds) ≡ busStateOf (map (nextDevice (eventOf byte) level) ds)
@@ -390,23 +389,21 @@ filled-is (suc i) state lines h =
 -- what the loops make of image, answers and line states
 abbrev pub ends : List ℕ → List ℕ → List ℕ → List LineState → RunState
 ends trace image answers lines =
-    events trace (servedOf image (length lines)) (length trace) (runState image answers (filled (servedOf image (length lines)) waitingState lines))
+    events trace (countOf image) (length trace) (runState image answers (filled (countOf image) waitingState lines))
 
 -- is what the run is to leave, where it is not refused
 pub run-shown : (trace image answers : List ℕ) (lines : List LineState) → runRefusal image trace (length answers) (length lines) ≡ 0
     → runOutcome 0 (ends trace image answers lines .image) (ends trace image answers lines .answers) (ends trace image answers lines .lines) ≡ runOf image trace answers lines
-unfolding runOf runAt leftByRun servedOf
+unfolding runOf runAt leftByRun
 run-shown trace image answers lines e =
     let has = admitted image trace (length answers) (length lines) e in
     let known = accepted-known image (has .image-accepted) in
     let n = countOf image in
     let tail = drop n lines in
     let ds = waitingDevices image in
-    let served : servedOf image (length lines) ≡ n = rw (le-ltb (length lines) n (has .lines-room)) in
     let began : filled n waitingState lines ≡ statesOf ds ++ tail = filled-is n waitingState lines (has .lines-room) ∙ ap (λ (l : List LineState). l ++ tail) (sym (waiting-states image known)) in
     let ended : ends trace image answers lines ≡ runState (tableOfContents image ++ bodiesOf (runTrace trace ds .devices)) (runTrace trace ds .answers ++ drop (length trace) answers) (statesOf (runTrace trace ds .devices) ++ tail) =
-    ap (λ (m : ℕ). events trace m (length trace) (runState image answers (filled m waitingState lines))) served
-    ∙ ap (λ (l : List LineState). events trace n (length trace) (runState image answers l)) began
+    ap (λ (l : List LineState). events trace n (length trace) (runState image answers l)) began
     ∙ ap (λ (l : List ℕ). events trace n (length trace) (runState l answers (statesOf ds ++ tail))) (sym (waiting-image image known))
     ∙ run-is image known tail trace answers (has .answers-room) ds (waiting-stands image known) (waiting-all image known) (waiting-in image known) in
     ap (λ (s : RunState). runOutcome 0 (s .image) (s .answers) (s .lines)) ended

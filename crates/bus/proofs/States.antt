@@ -1,5 +1,5 @@
--- The loop of `step_all`: the line states after the turns of the first i devices, and that after all they are those that `statesAfter`
--- names. Assumes nothing.
+-- The loops of `step_all`: the line states after the turns of the first i devices, and that they are those that `statesAfter` names.
+-- Assumes nothing.
 use Prim.Native.Nat.{ℕ, zero, suc, _+_, _<_, _≤_}
 use mathlib.Core.Path.{_≡_, refl, sym, ap, _∙_}
 use mathlib.Core.Bool.{Bool, true, false, cond}
@@ -8,13 +8,12 @@ use native.Mathlib.Omega.{arith}
 use lib.ListN.{length, getD, set, take, drop, length-set, drop-of-length-le}
 use lib.Seq.{length-take-le, take-suc, drop-cons, drop-length, getD-at, set-at, append-snoc}
 use lib.Dec.{ltb}
-use borrow.Author.Tests.{ltb-true}
-use Rattle.image.specs.Image.{countOf}
+use borrow.Author.Tests.{ltb-false}
 use Rattle.device.specs.declared.LineState.{LineState}
 use Rattle.device.specs.Device.{waitingState}
-use Rattle.bus.specs.Loops.{turnState, turnedFrom, lineAt, servedOf, statesAfter}
-use Rattle.bus.proofs.Laws.{served-lines}
-use Rattle.bus.proofs.Levels.{served-take}
+use Rattle.bus.specs.Loops.{turnState, turnedFrom, lineAt, fewerOf, statesAfter}
+use Rattle.bus.proofs.Laws.{fewer-second}
+use Rattle.bus.proofs.Levels.{fewer-take}
 
 module _ (image : List ℕ) (byte : ℕ) (level : Bool) where
   -- the line states after the turns of the first i devices
@@ -47,8 +46,8 @@ module _ (image : List ℕ) (byte : ℕ) (level : Bool) where
       ap (λ (l : List LineState). turnState image j s byte level ∷ l)
       (turned-more (suc j) states state ∙ ap (λ (k : ℕ). turned (suc j) states ++ turnState image k state byte level ∷ []) e)
 
-  steps-upto : (i : ℕ) (lines : List LineState) → i ≤ length lines → steps i lines ≡ turned 0 (take i lines) ++ drop i lines
-  unfolding steps turnedFrom
+  pub steps-upto : (i : ℕ) (lines : List LineState) → i ≤ length lines → steps i lines ≡ statesAfter image lines i byte level
+  unfolding steps turnedFrom statesAfter
   steps-upto zero lines h = refl
   steps-upto (suc i) lines h =
       let state = lineAt lines i in
@@ -71,21 +70,21 @@ module _ (image : List ℕ) (byte : ℕ) (level : Bool) where
       ∙ sym (append-snoc before next rest)
       ∙ ap (λ (l : List LineState). l ++ rest) (sym more)
 
-  served-drop : (lines : List LineState) (n : ℕ) (b : Bool) → ltb (length lines) n ≡ b → drop (cond b (length lines) n) lines ≡ drop n lines
-  served-drop lines n true e =
-      let h : length lines < n = ltb-true (length lines) n e in
-      let le : length lines ≤ n = omega arith in
-      drop-length lines ∙ sym (drop-of-length-le lines le)
-  served-drop lines n false e = refl
+fewer-drop : (lines : List LineState) (n : ℕ) (b : Bool) → ltb n (length lines) ≡ b → drop (cond b n (length lines)) lines ≡ drop n lines
+fewer-drop lines n true e = refl
+fewer-drop lines n false e = drop-length lines ∙ sym (drop-of-length-le lines (ltb-false n (length lines) e))
 
-  pub steps-all : (lines : List LineState) → steps (servedOf image (length lines)) lines ≡ statesAfter image lines byte level
-  unfolding statesAfter servedOf
-  steps-all lines =
-      let b = ltb (length lines) (countOf image) in
-      steps-upto (servedOf image (length lines)) lines (served-lines image (length lines))
-      ∙ ap (λ (l : List LineState). turned 0 l ++ drop (servedOf image (length lines)) lines) (served-take lines (countOf image) b refl)
-      ∙ ap (λ (l : List LineState). turned 0 (take (countOf image) lines) ++ l) (served-drop lines (countOf image) b refl)
+-- as many line states are lent, or fewer
+pub states-fewer : (image : List ℕ) (lines : List LineState) (n byte : ℕ) (level : Bool)
+    → statesAfter image lines (fewerOf n (length lines)) byte level ≡ statesAfter image lines n byte level
+unfolding statesAfter fewerOf
+states-fewer image lines n byte level =
+    let b = ltb n (length lines) in
+    ap (λ (l : List LineState). turnedFrom image 0 l byte level ++ drop (fewerOf n (length lines)) lines) (fewer-take lines n b refl)
+    ∙ ap (λ (l : List LineState). turnedFrom image 0 (take n lines) byte level ++ l) (fewer-drop lines n b refl)
 
 -- there are as many as before
-pub states-length : (image : List ℕ) (lines : List LineState) (byte : ℕ) (level : Bool) → length (statesAfter image lines byte level) ≡ length lines
-states-length image lines byte level = sym (ap length (steps-all image byte level lines)) ∙ steps-length image byte level (servedOf image (length lines)) lines
+pub states-length : (image : List ℕ) (lines : List LineState) (n byte : ℕ) (level : Bool) → length (statesAfter image lines n byte level) ≡ length lines
+states-length image lines n byte level =
+    let m = fewerOf n (length lines) in
+    sym (ap length (steps-upto image byte level m lines (fewer-second n (length lines)) ∙ states-fewer image lines n byte level)) ∙ steps-length image byte level m lines

@@ -9,7 +9,6 @@ use Rattle.bits.specs.Bit.{levelByte}
 use Rattle.kind.specs.declared.Kind.the-variants.{Unknown}
 use Rattle.kind.specs.Kind.{bodySize}
 use Rattle.image.specs.Image.{countOf, kindAt, offsetAt}
-use Rattle.line.specs.Transfers.{goesOn}
 use Rattle.device.specs.declared.LineState.{LineState}
 use Rattle.device.specs.Device.{waitingState, resetState, waits, sendsAsIs, stateAsIs, bodyAsIs, resetAsIs, pulseAsIs, programAsIs}
 use Rattle.bus.specs.declared.Event.{Event}
@@ -30,12 +29,9 @@ bodyAsItIs (Slot sent) level d = bodyAsIs (d .state) (d .kind) (d .body) level
 bodyAsItIs Reset level d = resetAsIs (d .state) (d .body)
 bodyAsItIs Pulse level d = programAsIs (d .state) (d .body)
 
--- a device that waits is passed over in a slot; inside a transfer a slot only shifts its register
+-- a device that waits is passed over in a slot
 unfoldable pub idleIn : ℕ → LineState → Bool
 idleIn byte state = ltb byte 2 && waits state
-
-unfoldable pub insideIn : ℕ → LineState → Bool
-insideIn byte state = ltb byte 2 && goesOn (state .transfer)
 
 -- where the body of device i lies, and its kind. A device that the image does not have, or has no room for, has an empty body and no kind
 unfoldable pub placeIn : List ℕ → ℕ → Place
@@ -79,13 +75,13 @@ levelAsItIs (Slot sent) states = sent && allHigh states
 levelAsItIs Reset states = nothingThere states
 levelAsItIs Pulse states = true
 
--- there are as many devices as the image has entries, or as line states are lent
-unfoldable pub levelOn : List ℕ → List LineState → ℕ → Bool
-levelOn image lines byte = levelAsItIs (eventOf byte) (take (countOf image) lines)
+-- of the first n devices, fewer where fewer line states are lent
+unfoldable pub levelOn : List LineState → ℕ → ℕ → Bool
+levelOn lines n byte = levelAsItIs (eventOf byte) (take n lines)
 
--- how many that are
-unfoldable pub servedOf : List ℕ → ℕ → ℕ
-servedOf image lines = cond (ltb lines (countOf image)) lines (countOf image)
+-- the smaller of two numbers
+unfoldable pub fewerOf : ℕ → ℕ → ℕ
+fewerOf a b = cond (ltb a b) a b
 
 -- how many of n devices are asked, and the level where these leave the line high or not
 unfoldable pub askedOf : ℕ → ℕ → ℕ
@@ -132,9 +128,9 @@ unfoldable pub turnedFrom : List ℕ → ℕ → List LineState → ℕ → Bool
 turnedFrom image i [] byte level = []
 turnedFrom image i (state ∷ states) byte level = turnState image i state byte level ∷ turnedFrom image (suc i) states byte level
 
--- of all devices; those past the entries stay as they were
-unfoldable pub statesAfter : List ℕ → List LineState → ℕ → Bool → List LineState
-statesAfter image lines byte level = turnedFrom image 0 (take (countOf image) lines) byte level ++ drop (countOf image) lines
+-- of the first n devices; those past them stay as they were
+unfoldable pub statesAfter : List ℕ → List LineState → ℕ → ℕ → Bool → List LineState
+statesAfter image lines n byte level = turnedFrom image 0 (take n lines) byte level ++ drop n lines
 
 -- ---- a trace
 
@@ -149,7 +145,7 @@ runState image answers lines = record { image = image; answers = answers; lines 
 
 unfoldable pub eventAt : ℕ → ℕ → ℕ → RunState → RunState
 eventAt byte n k s =
-    let level = levelOn (s .image) (s .lines) byte in
+    let level = levelOn (s .lines) n byte in
     let after = turns byte level n (busState (s .image) (s .lines)) in
     runState (after .image) (set (s .answers) k (levelByte level)) (after .lines)
 

@@ -15,25 +15,26 @@ use Rattle.walks.proofs.Walk.{lowers, Walk, End, Met, enters, asks, asks-last, 
 use Rattle.walks.proofs.Walk.{under, ptr, val, again, ifs, lands-new, ends-renew, also, lends, backs, shares-on}
 use Rattle.walks.proofs.Walk.{shares-back}
 use lib.Dec.{eqb, eqb→eq}
+use Rattle.image.specs.Image.{countOf}
 use Rattle.device.specs.declared.LineState.{LineState}
 use Rattle.device.specs.Device.{waitingState}
 use Rattle.bus.specs.Refusal.{runRefusal}
 use Rattle.bus.specs.Run.{runOutcome, runOf}
-use Rattle.bus.specs.Loops.{servedOf, filled, RunState, runState, events}
-use Rattle.bus.proofs.Laws.{admitted, served-lines, filled-length, events-image-length, events-answers-length}
+use Rattle.bus.specs.Loops.{filled, RunState, runState, events}
+use Rattle.bus.proofs.Laws.{admitted, filled-length, events-image-length, events-answers-length}
 use Rattle.bus.proofs.Laws.{events-lines-length}
 use Rattle.bus.proofs.Lines.{R, mach, typed}
-use Rattle.bus.proofs.Shapes.{run-shape as shape, refusal-shape, served-shape, waiting-shape, fill-shape}
+use Rattle.bus.proofs.Shapes.{run-shape as shape, refusal-shape, device-count-shape, waiting-shape, fill-shape}
 use Rattle.bus.proofs.Shapes.{run-events-shape}
 use Rattle.bus.proofs.Shown.{ends, run-shown, run-refused, run-leaves}
 use Rattle.bus.proofs.refusal as refusal
 use Rattle.bus.proofs.refusal.Symbol as refusal-def
 use Rattle.bus.proofs.refusal.Symbol.{name as #bus·refusal}
 use Rattle.bus.proofs.refusal.Met as refusal-thm
-use Rattle.bus.proofs.served as served
-use Rattle.bus.proofs.served.Symbol as served-def
-use Rattle.bus.proofs.served.Symbol.{name as #bus·served}
-use Rattle.bus.proofs.served.Met as served-thm
+use Rattle.bus.proofs.device_count as device-count
+use Rattle.bus.proofs.device_count.Symbol as device-count-def
+use Rattle.bus.proofs.device_count.Symbol.{name as #bus·device-count}
+use Rattle.bus.proofs.device_count.Met as device-count-thm
 use Rattle.device.proofs.LineState.waiting as waiting
 use Rattle.device.proofs.LineState.waiting.Symbol as waiting-def
 use Rattle.device.proofs.LineState.waiting.Symbol.{name as #device·waiting}
@@ -56,7 +57,7 @@ module _ {M : Type 1} (𝓤 : URA M) (H : Heap 𝓤) (A : Atoms 𝓤) (W : Given
     (run : Routine → Fun 𝓤)
     (𝓣 : Tables 𝓤 H)
     (known-refusal : Met 𝓤 H A 𝓣 refusal-shape (refusal.clauses 𝓤 H A mem run) #bus·refusal)
-    (known-served : Met 𝓤 H A 𝓣 served-shape (served.clauses 𝓤 H A mem run) #bus·served)
+    (known-device-count : Met 𝓤 H A 𝓣 device-count-shape (device-count.clauses 𝓤 H A mem run) #bus·device-count)
     (known-waiting : Met 𝓤 H A 𝓣 waiting-shape (waiting.clauses 𝓤 H A mem run) #device·waiting)
     (known-fill : Met 𝓤 H A 𝓣 fill-shape (fill.clauses 𝓤 H A mem run) #bus·fill)
     (known-run-events : Met 𝓤 H A 𝓣 run-events-shape (run-events.clauses 𝓤 H A mem run) #bus·run-events)
@@ -81,7 +82,7 @@ module _ {M : Type 1} (𝓤 : URA M) (H : Heap 𝓤) (A : Atoms 𝓤) (W : Given
   e = runRefusal im tr (length ans) (length ys)
 
   abbrev c : ℕ
-  c = servedOf im (length ys)
+  c = countOf im
 
   abbrev us : List LineState
   us = filled c waitingState ys
@@ -95,11 +96,13 @@ module _ {M : Type 1} (𝓤 : URA M) (H : Heap 𝓤) (A : Atoms 𝓤) (W : Given
   same : length us ≡ length ys
   same = filled-length c waitingState ys
 
+  few : e ≡ 0 → c ≤ length ys
+  few none = admitted im tr (length ans) (length ys) none .lines-room
+
   asked : e ≡ 0 → (length tr ≤ length ans) × (c ≤ length us)
   asked none = (
     admitted im tr (length ans) (length ys) none .answers-room,
-    subst (λ (j : ℕ). c ≤ j) (sym same)
-        (served-lines im (length ys)),
+    subst (λ (j : ℕ). c ≤ j) (sym same) (few none),
   )
 
   ran : e ≡ 0 → runOutcome e (done .image) (done .answers) (done .lines) ≡ runOf im tr ans ys
@@ -141,62 +144,60 @@ module _ {M : Type 1} (𝓤 : URA M) (H : Heap 𝓤) (A : Atoms 𝓤) (W : Given
       let room : Room u8 (length im) = are .0 .0 .1 in
       let room₂ : Room u8 (length ans) = are .1 .1 .0 .0 .1 in
       let room₃ : Room R (length ys) = are .1 .1 .1 .0 .0 .1 in
-      let few : c ≤ length ys = served-lines im (length ys) in
-      let c-is : Is u64 c (vint w64 c ∷ []) = (refl, omega (arith, few, room₃ .0)) in
       enters ! shape κs a 𝓣 code.function are refl (λ bs.
       -- `refusal`: the image is lent to it as `&`
       again ! refl refl refl refl tt (refl, refl, refl) tt (room .0) $
       new ! (of-opd ! (count ! refl refl)) refl (tt, record { fits = room₂ .0 }) $
       new ! (of-opd ! (count ! refl refl)) refl (tt, record { fits = room₃ .0 }) $
-      move ! (30 ∷ 26 ∷ []) $ shares-on ! tt u8 (κs .0) (qs .0) (to x im) (length im) refl (λ ν δ. lowers ! 3 26 $
+      move ! (29 ∷ 25 ∷ []) $ shares-on ! tt u8 (κs .0) (qs .0) (to x im) (length im) refl (λ ν δ. lowers ! 3 25 $
       asks ! 𝓣 refusal-shape (refusal.clauses 𝓤 H A mem run) known-refusal (ν ∷ [], (κs .1 .0, tt))
       (fullShare, (qs .1 .0, tt)) tt
       (under x δ im, (x₁, (length ans, (length ys, tt))))
       (val x ∷ [], (val x₁ ∷ [], (vint w64 (length ans) ∷ [], (vint w64 (length ys) ∷ [], tt)))) tt
       ((refl, room₂ .0), ((refl, room₃ .0), tt)) (id⊢ 𝓤 _) (λ r ws. r ≡ e) (λ r ws. id⊢ 𝓤 _) e
       (tt, (tt, (tt, (tt, tt)))) (λ r ws p. (p, refl))
-      (also ! refl (also ! refl (also ! refl (also ! refl (no-more !))))) (26 ∷ 29 ∷ 27 ∷ 32 ∷ []) refl (λ e-is _.
+      (also ! refl (also ! refl (also ! refl (also ! refl (no-more !))))) (25 ∷ 28 ∷ 26 ∷ 31 ∷ []) refl (λ e-is _.
       lands-new ! refl (tt, record { fits = e-is .1 }) $
-      move ! (31 ∷ 26 ∷ []) $ shares-back ! tt u8 (κs .0) (qs .0) (to x im) (length im) refl room ν $
-      move ! (1 ∷ 32 ∷ 28 ∷ 29 ∷ 0 ∷ 34 ∷ 30 ∷ 31 ∷ []) $ lowers ! 8 26 $ move ! (34 ∷ []) $ drop ! $
+      move ! (30 ∷ 25 ∷ []) $ shares-back ! tt u8 (κs .0) (qs .0) (to x im) (length im) refl room ν $
+      move ! (1 ∷ 31 ∷ 27 ∷ 28 ∷ 0 ∷ 33 ∷ 29 ∷ 30 ∷ []) $ lowers ! 8 25 $ move ! (33 ∷ []) $ drop ! $
       new ! (bin ! (var ! refl) (lit ! tt) tt) refl (tt, tt) $ ifs ! (var ! refl)
       -- it is not refused
       (λ Q on held.
       let none : e ≡ 0 = eqb→eq e 0 held in
-      -- `served`: the image is lent to it as `&`
+      let c-is : Is u64 c (vint w64 c ∷ []) = (refl, omega (arith, few none, room₃ .0)) in
+      -- `device_count`: the image is lent to it as `&`
       again ! refl refl refl refl tt (refl, refl, refl) tt (room .0) $
-      new ! (of-opd ! (count ! refl refl)) refl (tt, record { fits = room₃ .0 }) $
-      move ! (30 ∷ 26 ∷ []) $ shares-on ! tt u8 (κs .0) (qs .0) (to x im) (length im) refl (λ ν′ δ′. lowers ! 3 26 $
-      asks ! 𝓣 served-shape (served.clauses 𝓤 H A mem run) known-served (ν′ ∷ [], tt) (fullShare, tt) tt
-      (under x δ′ im, (length ys, tt)) (val x ∷ [], (vint w64 (length ys) ∷ [], tt)) tt ((refl, room₃ .0), tt) (id⊢ 𝓤 _)
-      (λ m ws. m ≡ c) (λ m ws. id⊢ 𝓤 _) c (tt, (tt, tt)) (λ m ws p. (p, refl))
-      (also ! refl (also ! refl (no-more !))) (26 ∷ 27 ∷ []) refl
+      move ! (29 ∷ 25 ∷ []) $ shares-on ! tt u8 (κs .0) (qs .0) (to x im) (length im) refl (λ ν′ δ′. lowers ! 3 25 $
+      asks ! 𝓣 device-count-shape (device-count.clauses 𝓤 H A mem run) known-device-count (ν′ ∷ [], tt) (fullShare, tt) tt
+      (under x δ′ im, tt) (val x ∷ [], tt) tt tt (id⊢ 𝓤 _)
+      (λ m ws. m ≡ c) (λ m ws. id⊢ 𝓤 _) c (tt, tt) (λ m ws p. (p, refl))
+      (also ! refl (no-more !)) (25 ∷ 26 ∷ []) refl
       (λ _ _. lands-new ! refl (tt, record { fits = c-is .1 }) $
-      move ! (33 ∷ 26 ∷ []) $ shares-back ! tt u8 (κs .0) (qs .0) (to x im) (length im) refl room ν′ $
-      move ! (34 ∷ []) $ drop ! $ lowers ! 2 26 $
+      move ! (32 ∷ 25 ∷ []) $ shares-back ! tt u8 (κs .0) (qs .0) (to x im) (length im) refl room ν′ $
+      move ! (33 ∷ []) $ drop ! $ lowers ! 2 25 $
       asks ! 𝓣 waiting-shape (waiting.clauses 𝓤 H A mem run) known-waiting tt tt tt tt tt tt tt (id⊢ 𝓤 _)
       (λ w ws. w ≡ waitingState) (λ w ws. id⊢ 𝓤 _) waitingState tt (λ w ws p. (p, refl))
       (no-more !) [] refl (λ is _. lands-new ! refl (typed 𝓤 H A W waitingState (mach waitingState) is) $
       -- `fill`: the lines are lent to it. Behind the locals: [the image; the tokens; the trace; the answers; the lines]
       again ! refl refl refl refl tt (refl, refl, refl) tt (room₃ .0) $
-      move ! (33 ∷ 30 ∷ []) $ lends ! tt R (κs .1 .1 .1 .0) (qs .1 .1 .1 .0) (to x₃ ys) (length ys) refl
-      (λ μ ε. lowers ! 3 26 $
+      move ! (32 ∷ 29 ∷ []) $ lends ! tt R (κs .1 .1 .1 .0) (qs .1 .1 .1 .0) (to x₃ ys) (length ys) refl
+      (λ μ ε. lowers ! 3 25 $
       asks ! 𝓣 fill-shape (fill.clauses 𝓤 H A mem run) known-fill (μ ∷ [], tt) (fullShare, tt) tt
       (under x₃ ε ys, (c, (waitingState, tt)))
-      (val x₃ ∷ [], (vint w64 c ∷ [], (mach waitingState ∷ [], tt))) tt (c-is, (is, tt)) (factI 𝓤 _ (emp 𝓤) few)
+      (val x₃ ∷ [], (vint w64 c ∷ [], (mach waitingState ∷ [], tt))) tt (c-is, (is, tt)) (factI 𝓤 _ (emp 𝓤) (few none))
       (λ r zs. zs .0 ≡ us) (λ r zs. id⊢ 𝓤 _) tt (us, (tt, (tt, tt)))
       (λ r zs p. (refl, ap (λ (z : List LineState). (z, (tt, (tt, tt)))) p))
-      (also ! refl (also ! refl (also ! refl (no-more !)))) (26 ∷ 27 ∷ []) refl (λ _ _. lands-new ! refl (tt, tt) $
-      move ! (33 ∷ 26 ∷ 34 ∷ []) $ backs ! tt R (κs .1 .1 .1 .0) (qs .1 .1 .1 .0) (to x₃ ys) (length ys) refl room₃ μ ε
-      us $ lowers ! 2 26 $
+      (also ! refl (also ! refl (also ! refl (no-more !)))) (25 ∷ 26 ∷ []) refl (λ _ _. lands-new ! refl (tt, tt) $
+      move ! (32 ∷ 25 ∷ 33 ∷ []) $ backs ! tt R (κs .1 .1 .1 .0) (qs .1 .1 .1 .0) (to x₃ ys) (length ys) refl room₃ μ ε
+      us $ lowers ! 2 25 $
       -- `run_events`: the image, the answers and the lines are lent to it
       again ! refl refl refl refl tt (refl, refl, refl) tt (room .0) $
       again ! refl refl refl refl tt (refl, refl, refl) tt (room₂ .0) $
       again ! refl refl refl refl tt (refl, refl, refl) tt (room₃ .0) $
-      move ! (28 ∷ 29 ∷ []) $ lends ! tt u8 (κs .0) (qs .0) (to x im) (length im) refl (λ α β.
-      move ! (34 ∷ 32 ∷ []) $ lends ! tt u8 (κs .1 .1 .0) (qs .1 .1 .0) (to x₂ ans) (length ans) refl (λ α₂ β₂.
-      move ! (32 ∷ 33 ∷ []) $ lends ! tt R (κs .1 .1 .1 .0) (qs .1 .1 .1 .0) (to x₃ us) (length ys) same
-      (λ α₃ β₃. lowers ! 9 26 $
+      move ! (27 ∷ 28 ∷ []) $ lends ! tt u8 (κs .0) (qs .0) (to x im) (length im) refl (λ α β.
+      move ! (33 ∷ 31 ∷ []) $ lends ! tt u8 (κs .1 .1 .0) (qs .1 .1 .0) (to x₂ ans) (length ans) refl (λ α₂ β₂.
+      move ! (31 ∷ 32 ∷ []) $ lends ! tt R (κs .1 .1 .1 .0) (qs .1 .1 .1 .0) (to x₃ us) (length ys) same
+      (λ α₃ β₃. lowers ! 9 25 $
       asks-last ! 𝓣 run-events-shape (run-events.clauses 𝓤 H A mem run) known-run-events
       (α ∷ [], (κs .1 .0, (α₂ ∷ [], (α₃ ∷ [], tt)))) (fullShare, (qs .1 .0, (fullShare, (fullShare, tt)))) tt
       (under x β im, (x₁, (under x₂ β₂ ans, (under x₃ β₃ us, (c, tt)))))
@@ -210,16 +211,16 @@ module _ {M : Type 1} (𝓤 : URA M) (H : Heap 𝓤) (A : Atoms 𝓤) (W : Given
             (ap (λ (s : RunState). s .lines) p),
       ))
       (also ! refl (also ! refl (also ! refl (also ! refl (also ! refl (no-more !))))))
-      (32 ∷ 35 ∷ 29 ∷ 26 ∷ 33 ∷ 36 ∷ 30 ∷ 27 ∷ []) refl (λ _ _.
-      move ! (29 ∷ 28 ∷ 33 ∷ []) $ backs ! tt u8 (κs .0) (qs .0) (to x im) (length im) refl room α β (done .image) $
-      move ! (31 ∷ 29 ∷ 34 ∷ []) $ backs ! tt u8 (κs .1 .1 .0) (qs .1 .1 .0) (to x₂ ans) (length ans) refl room₂ α₂ β₂
+      (31 ∷ 34 ∷ 28 ∷ 25 ∷ 32 ∷ 35 ∷ 29 ∷ 26 ∷ []) refl (λ _ _.
+      move ! (28 ∷ 27 ∷ 32 ∷ []) $ backs ! tt u8 (κs .0) (qs .0) (to x im) (length im) refl room α β (done .image) $
+      move ! (30 ∷ 28 ∷ 33 ∷ []) $ backs ! tt u8 (κs .1 .1 .0) (qs .1 .1 .0) (to x₂ ans) (length ans) refl room₂ α₂ β₂
       (done .answers) $
-      move ! (32 ∷ 30 ∷ 34 ∷ []) $ backs ! tt R (κs .1 .1 .1 .0) (qs .1 .1 .1 .0) (to x₃ us) (length ys) same room₃ α₃
+      move ! (31 ∷ 29 ∷ 33 ∷ []) $ backs ! tt R (κs .1 .1 .1 .0) (qs .1 .1 .1 .0) (to x₃ us) (length ys) same room₃ α₃
       β₃ (done .lines) $
-      move ! (5 ∷ 32 ∷ 3 ∷ 1 ∷ 4 ∷ 33 ∷ 2 ∷ 0 ∷ []) $ lowers ! 8 26 $ ends-renew ! refl (tt, tt) $ on _ (
+      move ! (5 ∷ 31 ∷ 3 ∷ 1 ∷ 4 ∷ 32 ∷ 2 ∷ 0 ∷ []) $ lowers ! 8 25 $ ends-renew ! refl (tt, tt) $ on _ (
       leaves bs (has (vint w64 c) ∷ has (mach waitingState) ∷ has (ptr x) ∷ has (val x) ∷ has (vint w64 (length ans))
       ∷ has (vint w64 (length ys))
-      ∷ has (vbool (eqb e 0)) ∷ has (ptr x) ∷ has (val x) ∷ has (vint w64 (length ys)) ∷ has vunit ∷ has (ptr x₃)
+      ∷ has (vbool (eqb e 0)) ∷ has (ptr x) ∷ has (val x) ∷ has vunit ∷ has (ptr x₃)
       ∷ has (val x₃)
       ∷ has (ptr x) ∷ has (val x) ∷ has (ptr x₂) ∷ has (val x₂) ∷ has (ptr x₃) ∷ has (val x₃) ∷ [])
       (done .image) (done .answers) (done .lines) e-is (ran none) (events-image-length tr c (length tr) start)
@@ -237,7 +238,8 @@ run-spec 𝓤 H 𝓜 𝓖 𝓡 =
     𝓜 𝓡 code.env #bus·run code.function (code.unfolded 𝓤 H 𝓜 𝓡) (λ κs a g. factI 𝓤 (Unit {0}) (emp 𝓤) tt)
     (λ κs qs bounds a g. walk 𝓤 H (𝓖 .A) (givenOf 𝓤 H 𝓜 𝓖) (𝓜 .mem) (𝓡 .run) (tablesOf 𝓤 H 𝓜 (tables 𝓤 H 𝓜 𝓡 code.env))
     (cited 𝓤 H _ 𝓜 𝓡 code.env #bus·refusal refusal-def.routine code.calls-bus·refusal (refusal-thm.met 𝓤 H 𝓜 𝓖 𝓡))
-    (cited 𝓤 H _ 𝓜 𝓡 code.env #bus·served served-def.routine code.calls-bus·served (served-thm.met 𝓤 H 𝓜 𝓖 𝓡))
+    (cited 𝓤 H _ 𝓜 𝓡 code.env #bus·device-count device-count-def.routine code.calls-bus·device-count
+    (device-count-thm.met 𝓤 H 𝓜 𝓖 𝓡))
     (cited 𝓤 H _ 𝓜 𝓡 code.env #device·waiting waiting-def.routine code.calls-device·LineState·waiting
     (waiting-thm.met 𝓤 H 𝓜 𝓖 𝓡))
     (cited 𝓤 H _ 𝓜 𝓡 code.env #bus·fill fill-def.routine code.calls-bus·fill (fill-thm.met 𝓤 H 𝓜 𝓖 𝓡))

@@ -1,7 +1,8 @@
 -- `bus::run_events` meets its contract: a walk of its MIR, with a loop that answers each event with its level and gives
 -- it to the devices.
 -- The trace is looked into and the answers are opened once, before the loop. The image and the lines are held closed:
--- in each turn they are lent to `level` as `&`, and to `turn_all`, each for a lifetime of the call, and come back.
+-- in each turn the lines are lent to `level` as `&`, and both to `step_event`, each for a lifetime of the call, and come
+-- back.
 -- The state after k turns is `events tr m k` of the state on entry (`specs/Loops.antt`), by recursion on k, so the
 -- invariant holds at k + 1 by computation.
 -- All that it knows of its callees is that each meets its contract.
@@ -21,15 +22,15 @@ use Rattle.device.specs.declared.LineState.{LineState}
 use Rattle.bus.specs.Loops.{levelOn, BusState, busState, turns, RunState, runState, eventAt, events}
 use Rattle.bus.proofs.Laws.{events-image-length, events-answers-length, events-lines-length}
 use Rattle.bus.proofs.Lines.{fits-next, answer-is, answer-fits, R}
-use Rattle.bus.proofs.Shapes.{run-events-shape as shape, level-shape, turn-all-shape}
+use Rattle.bus.proofs.Shapes.{run-events-shape as shape, level-shape, step-event-shape}
 use Rattle.bus.proofs.level as level
 use Rattle.bus.proofs.level.Symbol as level-def
 use Rattle.bus.proofs.level.Symbol.{name as #bus·level}
 use Rattle.bus.proofs.level.Met as level-thm
-use Rattle.bus.proofs.turn_all as turn-all
-use Rattle.bus.proofs.turn_all.Symbol as turn-all-def
-use Rattle.bus.proofs.turn_all.Symbol.{name as #bus·turn-all}
-use Rattle.bus.proofs.turn_all.Met as turn-all-thm
+use Rattle.bus.proofs.step_event as step-event
+use Rattle.bus.proofs.step_event.Symbol as step-event-def
+use Rattle.bus.proofs.step_event.Symbol.{name as #bus·step-event}
+use Rattle.bus.proofs.step_event.Met as step-event-thm
 use Rattle.bus.proofs.run_events.Key.{name as #bus·run-events}
 use Rattle.bus.proofs.run_events as run-events
 use Rattle.bus.proofs.run_events.Statement as stated
@@ -45,7 +46,7 @@ module _ {M : Type 1} (𝓤 : URA M) (H : Heap 𝓤) (A : Atoms 𝓤) (W : Given
     (run : Routine → Fun 𝓤)
     (𝓣 : Tables 𝓤 H)
     (known-level : Met 𝓤 H A 𝓣 level-shape (level.clauses 𝓤 H A mem run) #bus·level)
-    (known-turn-all : Met 𝓤 H A 𝓣 turn-all-shape (turn-all.clauses 𝓤 H A mem run) #bus·turn-all)
+    (known-step-event : Met 𝓤 H A 𝓣 step-event-shape (step-event.clauses 𝓤 H A mem run) #bus·step-event)
     (κs : Lfts 4) (qs : Shares 4) (x x₁ x₂ : RefT (List ℕ)) (x₃ : RefT (List LineState)) (m : ℕ) where
   abbrev a : Arg
   a = (x, (x₁, (x₂, (x₃, (m, tt)))))
@@ -68,7 +69,7 @@ module _ {M : Type 1} (𝓤 : URA M) (H : Heap 𝓤) (A : Atoms 𝓤) (W : Given
   abbrev o₂ : ℕ
   o₂ = x₂ .ptr .1
 
-  -- the state on entry and after k turns, event k, its level, and what `turn_all` leaves of it
+  -- the state on entry and after k turns, event k, its level, and what `step_event` leaves of it
   abbrev entry : RunState
   entry = runState (x .now) (x₂ .now) (x₃ .now)
 
@@ -79,7 +80,7 @@ module _ {M : Type 1} (𝓤 : URA M) (H : Heap 𝓤) (A : Atoms 𝓤) (W : Given
   v k = getD tr k 0
 
   abbrev lv : ℕ → Bool
-  lv k = levelOn (st k .image) (st k .lines) (v k)
+  lv k = levelOn (st k .lines) m (v k)
 
   both : {X Y : Type 0} {a a′ : X} {b b′ : Y} → a ≡ a′ → b ≡ b′
       → _≡_ {A = X × (Y × (Unit {0} × (Unit {0} × (Unit {0} × Unit {0}))))} (a, (b, (tt, (tt, (tt, tt)))))
@@ -111,8 +112,8 @@ module _ {M : Type 1} (𝓤 : URA M) (H : Heap 𝓤) (A : Atoms 𝓤) (W : Given
       let m-is : Is u64 m (vint w64 m ∷ []) = are .1 .1 .1 .1 .0 in
       enters ! shape κs a 𝓣 code.function are refl (λ bs.
       new ! (of-opd ! (lit ! tt)) refl (tt, record { fits = lit< tt }) $
-      move ! (29 ∷ 25 ∷ []) $ opens-shr ! tt (num w8) (uint-copy 𝓤 H A W w8) (κs .1 .0) x₁ (λ z.
-      move ! (31 ∷ 28 ∷ []) $ opens-mut ! tt u8 (κs .1 .1 .0) x₂ $ move ! (32 ∷ 30 ∷ 31 ∷ 29 ∷ []) $ lowers ! 9 24 $
+      move ! (27 ∷ 23 ∷ []) $ opens-shr ! tt (num w8) (uint-copy 𝓤 H A W w8) (κs .1 .0) x₁ (λ z.
+      move ! (29 ∷ 26 ∷ []) $ opens-mut ! tt u8 (κs .1 .1 .0) x₂ $ move ! (30 ∷ 28 ∷ 29 ∷ 27 ∷ []) $ lowers ! 9 22 $
       counted ! 𝓣 n (At z bs)
       -- a turn: the event is read, its level is asked and answered, and each device is given it
       (λ k Q small on-to.
@@ -123,40 +124,36 @@ module _ {M : Type 1} (𝓤 : URA M) (H : Heap 𝓤) (A : Atoms 𝓤) (W : Given
       let few : m ≤ length (st k .lines) = subst (λ (j : ℕ). m ≤ j) (sym len₃) (pre .1) in
       new ! (of-opd ! (count ! refl refl)) refl (tt, record { fits = room₁ .0 }) $
       goes-in ! (var ! refl) (var ! refl) small refl tt refl $
-      points-byte ! k (head ! refl refl) (var ! refl) refl tt $ sees ! (num w8) 30 z tr k 0 b₁ o₁ small refl (λ v-is.
-      new ! (of-opd ! (elem ! refl (in-row ! (num w8) 30 z tr k 0 b₁ o₁ small refl refl))) refl
+      points-byte ! k (head ! refl refl) (var ! refl) refl tt $ sees ! (num w8) 28 z tr k 0 b₁ o₁ small refl (λ v-is.
+      new ! (of-opd ! (elem ! refl (in-row ! (num w8) 28 z tr k 0 b₁ o₁ small refl refl))) refl
       (tt, record { fits = v-is .1 }) $
       new ! (of-opd ! (var ! refl)) refl (tt, record { fits = v-is .1 }) $
-      -- `level`: the image and the lines are lent to it as `&`
-      again ! refl refl refl refl tt (refl, refl, refl) tt (room .0) $
+      -- `level`: the lines are lent to it as `&`
       again ! refl refl refl refl tt (refl, refl, refl) tt (room₃ .0) $
-      move ! (26 ∷ 27 ∷ []) $ shares-on ! tt u8 (κs .0) (qs .0) (to x (st k .image)) (length (x .now)) len (λ ν δ.
-      move ! (27 ∷ 28 ∷ []) $ shares-on ! tt R (κs .1 .1 .1 .0) (qs .1 .1 .1 .0) (to x₃ (st k .lines))
-      (length (x₃ .now)) len₃ (λ ν′ δ′. lowers ! 6 24 $
-      asks ! 𝓣 level-shape (level.clauses 𝓤 H A mem run) known-level (ν ∷ [], (ν′ ∷ [], tt))
-      (fullShare, (fullShare, tt)) tt
-      (under x δ (st k .image), (under x₃ δ′ (st k .lines), (v k, tt)))
-      (val x ∷ [], (val x₃ ∷ [], (vint w8 (v k) ∷ [], tt))) tt (v-is, tt) (id⊢ 𝓤 _)
+      move ! (22 ∷ 23 ∷ []) $ shares-on ! tt R (κs .1 .1 .1 .0) (qs .1 .1 .1 .0) (to x₃ (st k .lines))
+      (length (x₃ .now)) len₃ (λ ν δ. lowers ! 3 22 $
+      asks ! 𝓣 level-shape (level.clauses 𝓤 H A mem run) known-level (ν ∷ [], tt) (fullShare, tt) tt
+      (under x₃ δ (st k .lines), (m, (v k, tt)))
+      (val x₃ ∷ [], (vint w64 m ∷ [], (vint w8 (v k) ∷ [], tt))) tt (m-is, (v-is, tt)) (id⊢ 𝓤 _)
       (λ r ws. r ≡ lv k) (λ r ws. id⊢ 𝓤 _) (lv k) (tt, (tt, (tt, tt))) (λ r ws e. (e, refl))
-      (also ! refl (also ! refl (also ! refl (no-more !)))) (27 ∷ 24 ∷ 28 ∷ 25 ∷ []) refl
+      (also ! refl (also ! refl (also ! refl (no-more !)))) (22 ∷ 23 ∷ []) refl
       (λ _ _. lands-new ! refl (tt, tt) $
-      move ! (31 ∷ 25 ∷ []) $ shares-back ! tt u8 (κs .0) (qs .0) (to x (st k .image)) (length (x .now)) len room ν $
-      move ! (32 ∷ 26 ∷ []) $ shares-back ! tt R (κs .1 .1 .1 .0) (qs .1 .1 .1 .0) (to x₃ (st k .lines))
-      (length (x₃ .now)) len₃ room₃ ν′ $
-      lowers ! 4 24 $ move ! (33 ∷ 34 ∷ []) $ drop ! $ drop ! $
+      move ! (30 ∷ 22 ∷ []) $ shares-back ! tt R (κs .1 .1 .1 .0) (qs .1 .1 .1 .0) (to x₃ (st k .lines))
+      (length (x₃ .now)) len₃ room₃ ν $
+      lowers ! 2 22 $ move ! (31 ∷ []) $ drop ! $
       -- the answer
       renew ! (byte-of ! (answer-is (lv k)) (var ! refl)) refl (tt, record { fits = answer-fits (lv k) }) $
       points-byte ! k (head ! refl refl) (var ! refl) refl tt $
-      assigns ! (of-opd ! (var ! refl)) (from ! (hop ! (look ! 17 refl) (stop !)))
-      (onto-row ! (num w8) 28 (st k .answers) k 0 (levelByte (lv k)) b₂ o₂ within refl refl (refl, answer-fits (lv k))
+      assigns ! (of-opd ! (var ! refl)) (from ! (hop ! (look ! 15 refl) (stop !)))
+      (onto-row ! (num w8) 26 (st k .answers) k 0 (levelByte (lv k)) b₂ o₂ within refl refl (refl, answer-fits (lv k))
       (tt, record { fits = answer-fits (lv k) })) $
-      -- `turn_all`: the image and the lines are lent to it
+      -- `step_event`: the image and the lines are lent to it
       again ! refl refl refl refl tt (refl, refl, refl) tt (room .0) $
       again ! refl refl refl refl tt (refl, refl, refl) tt (room₃ .0) $
-      move ! (26 ∷ 27 ∷ []) $ lends ! tt u8 (κs .0) (qs .0) (to x (st k .image)) (length (x .now)) len (λ α β.
-      move ! (27 ∷ 28 ∷ []) $ lends ! tt R (κs .1 .1 .1 .0) (qs .1 .1 .1 .0) (to x₃ (st k .lines)) (length (x₃ .now))
-      len₃ (λ α′ β′. lowers ! 6 24 $
-      asks ! 𝓣 turn-all-shape (turn-all.clauses 𝓤 H A mem run) known-turn-all (α ∷ [], (α′ ∷ [], tt))
+      move ! (24 ∷ 25 ∷ []) $ lends ! tt u8 (κs .0) (qs .0) (to x (st k .image)) (length (x .now)) len (λ α β.
+      move ! (25 ∷ 26 ∷ []) $ lends ! tt R (κs .1 .1 .1 .0) (qs .1 .1 .1 .0) (to x₃ (st k .lines)) (length (x₃ .now))
+      len₃ (λ α′ β′. lowers ! 6 22 $
+      asks ! 𝓣 step-event-shape (step-event.clauses 𝓤 H A mem run) known-step-event (α ∷ [], (α′ ∷ [], tt))
       (fullShare, (fullShare, tt)) tt
       (under x β (st k .image), (under x₃ β′ (st k .lines), (m, (v k, (lv k, tt)))))
       (val x ∷ [], (val x₃ ∷ [], (vint w64 m ∷ [], (vint w8 (v k) ∷ [], (vbool (lv k) ∷ [], tt))))) tt
@@ -165,24 +162,24 @@ module _ {M : Type 1} (𝓤 : URA M) (H : Heap 𝓤) (A : Atoms 𝓤) (W : Given
       (λ r us. id⊢ 𝓤 _)
       tt (st (suc k) .image, (st (suc k) .lines, (tt, (tt, (tt, tt)))))
       (λ r us e. (refl, both (ap (λ (t : BusState). t .image) e) (ap (λ (t : BusState). t .lines) e)))
-      (also ! refl (also ! refl (also ! refl (also ! refl (also ! refl (no-more !)))))) (27 ∷ 24 ∷ 28 ∷ 25 ∷ []) refl
+      (also ! refl (also ! refl (also ! refl (also ! refl (also ! refl (no-more !)))))) (25 ∷ 22 ∷ 26 ∷ 23 ∷ []) refl
       (λ _ _. lands-new ! refl (tt, tt) $
-      move ! (31 ∷ 25 ∷ 33 ∷ []) $ backs ! tt u8 (κs .0) (qs .0) (to x (st k .image)) (length (x .now)) len room α β
+      move ! (29 ∷ 23 ∷ 31 ∷ []) $ backs ! tt u8 (κs .0) (qs .0) (to x (st k .image)) (length (x .now)) len room α β
       (st (suc k) .image) $
-      move ! (32 ∷ 26 ∷ 33 ∷ []) $ backs ! tt R (κs .1 .1 .1 .0) (qs .1 .1 .1 .0) (to x₃ (st k .lines))
+      move ! (30 ∷ 24 ∷ 31 ∷ []) $ backs ! tt R (κs .1 .1 .1 .0) (qs .1 .1 .1 .0) (to x₃ (st k .lines))
       (length (x₃ .now)) len₃ room₃ α′ β′ (st (suc k) .lines) $
-      lowers ! 4 24 $ bump ! refl (fits-next k n (room₁ .0) small) tt $
+      lowers ! 4 22 $ bump ! refl (fits-next k n (room₁ .0) small) tt $
       forget ! 7 refl $ forget ! 8 refl $ forget ! 9 refl $ forget ! 10 refl $ forget ! 11 refl $ forget ! 12 refl $
       forget ! 13 refl $ forget ! 14 refl $
       forget ! 15 refl $ forget ! 16 refl $ forget ! 17 refl $ forget ! 18 refl $ forget ! 19 refl $ forget ! 20 refl $
-      forget ! 21 refl $ forget ! 22 refl $ on-to))))))))
+      on-to)))))))
       -- the loop is left: the trace is shut and the answers are closed, and the function returns
       (λ Q out. new ! (of-opd ! (count ! refl refl)) refl (tt, record { fits = room₁ .0 }) $
       goes-out ! (var ! refl) (var ! refl) (lt-irrefl n) refl tt refl $ out _ (
       new ! (of-opd ! (unit-lit !)) refl (tt, tt) $
-      move ! (28 ∷ 29 ∷ []) $ closes-mut ! tt u8 (κs .1 .1 .0) (x₂ .name) (x₂ .now) (st n .answers)
+      move ! (26 ∷ 27 ∷ []) $ closes-mut ! tt u8 (κs .1 .1 .0) (x₂ .name) (x₂ .now) (st n .answers)
       (events-answers-length tr m n entry) b₂ o₂ room₂ $
-      move ! (30 ∷ 31 ∷ []) $ closes-shr ! tt u8 (κs .1 .0) z tr b₁ o₁ $ lowers ! 3 24 $
+      move ! (28 ∷ 29 ∷ []) $ closes-shr ! tt u8 (κs .1 .0) z tr b₁ o₁ $ lowers ! 3 22 $
       returns ! (look ! 0 refl) $ quits
       ! (has vunit ∷ vs n ++ void ∷ void ∷ has (vint w64 n) ∷ has (vbool false) ∷ []) $
       move ! (6 ∷ 0 ∷ 2 ∷ 4 ∷ 5 ∷ 7 ∷ 1 ∷ 3 ∷ []) $
@@ -201,5 +198,5 @@ run-events-spec 𝓤 H 𝓜 𝓖 𝓡 =
     𝓜 𝓡 code.env #bus·run-events code.function (code.unfolded 𝓤 H 𝓜 𝓡) (λ κs a g. id⊢ 𝓤 _)
     (λ κs qs bounds a g. walk 𝓤 H (𝓖 .A) (givenOf 𝓤 H 𝓜 𝓖) (𝓜 .mem) (𝓡 .run) (tablesOf 𝓤 H 𝓜 (tables 𝓤 H 𝓜 𝓡 code.env))
     (cited 𝓤 H _ 𝓜 𝓡 code.env #bus·level level-def.routine code.calls-bus·level (level-thm.met 𝓤 H 𝓜 𝓖 𝓡))
-    (cited 𝓤 H _ 𝓜 𝓡 code.env #bus·turn-all turn-all-def.routine code.calls-bus·turn-all (turn-all-thm.met 𝓤 H 𝓜 𝓖 𝓡))
+    (cited 𝓤 H _ 𝓜 𝓡 code.env #bus·step-event step-event-def.routine code.calls-bus·step-event (step-event-thm.met 𝓤 H 𝓜 𝓖 𝓡))
     κs qs (a .0) (a .1 .0) (a .1 .1 .0) (a .1 .1 .1 .0) (a .1 .1 .1 .1 .0))

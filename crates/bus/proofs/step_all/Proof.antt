@@ -1,133 +1,144 @@
--- `bus::step_all` meets its contract: a walk of its MIR, with a loop that asks `state_after` of each device and stores
--- its line state.
--- The lines' borrow is opened once, before the loop, and closed once, after it. The image is held closed, and each call
--- is passed a copy of it.
--- The line states after i turns are `steps .. i` (`States.antt`), by recursion on i; after all they are `statesAfter`
--- (`steps-all`).
+-- `bus::step_all` meets its contract: a walk of its MIR. The image is passed on as a copy, and the lines are lent to
+-- `read_slot_all` or to `read_turn_all`, for a lifetime of the call, and come back.
+-- Each arm of the `if` ends in `leaves`, the code behind it. What the master sends in a slot and the level of another
+-- event have no part in a turn (`states-slot`, `states-other` of `Idle.antt`), so each leaves what the contract says.
 -- All that it knows of its callees is that each meets its contract.
 -- Assumes nothing. `Walk.antt` of `walks` says how a walk is written.
-use Rattle.walks.proofs.Walk.{_≡_, refl, sym, subst, ℕ, _<_, _≤_, _+_, _*_, _^_, arith, [], _∷_, List, length, lit<}
-use Rattle.walks.proofs.Walk.{URA, fullShare, named, w8, w64, vunit, vint, vbool, SProp, emp, id⊢, flft, Fun, factI}
-use Rattle.walks.proofs.Walk.{Lfts, Shares, givenOf, tables, tablesOf, Memory, Routine, Heap, Tables, Atoms, Given}
-use Rattle.walks.proofs.Walk.{Item, ‵, _$_, !, move, look, forget, stop, hop, from, lit, unit-lit, of-opd, no-more, bin}
-use Rattle.walks.proofs.Walk.{assigns, returns, Is, u8, RefT, ShrSlice, Room, row, cited, Cell, void, has, Blocks, env}
-use Rattle.walks.proofs.Walk.{stand, quits, lowers, Walk, Met, enters, asks, finishes, proved, var, head, count, new}
-use Rattle.walks.proofs.Walk.{renew, bump, whiles, ptr, val, points, lands-new, Opened, opens-mut, closes-mut, also}
-use Rattle.walks.proofs.Walk.{sees, in-row, elem, onto-row}
-use mathlib.Core.Bool.{Bool}
+use Rattle.walks.proofs.Walk.{Bool, true, _≡_, refl, ap, _∙_, ℕ, _<_, _≤_, _^_, arith, [], _∷_, List, length, URA}
+use Rattle.walks.proofs.Walk.{fullShare, named, w8, w64, vunit, vint, vbool, SProp, emp, id⊢, flft, Fun, factI, Lfts}
+use Rattle.walks.proofs.Walk.{Shares, givenOf, tables, tablesOf, Memory, Routine, Heap, Tables, Atoms, Given, Item, ‵, _$_}
+use Rattle.walks.proofs.Walk.{Sq, runs, atRet, !, move, look, lit, unit-lit, of-opd, no-more, bin, returns, Is, u8, u64}
+use Rattle.walks.proofs.Walk.{RefT, ShrSlice, MutSlice, Room, cited, Cell, void, has, Blocks, env, stand, quits, lowers}
+use Rattle.walks.proofs.Walk.{Walk, End, Met, enters, asks, asks-last, finishes, proved, var, count, new, to, under, ptr}
+use Rattle.walks.proofs.Walk.{val, again, ifs, lands-new, ends-new, also, lends, backs}
+use lib.Dec.{ltb}
+use borrow.Author.Tests.{ltb-true, ltb-false}
 use Rattle.device.specs.declared.LineState.{LineState}
-use Rattle.device.specs.Device.{waitingState}
-use Rattle.bus.specs.Loops.{turnState, lineAt, servedOf}
-use Rattle.bus.proofs.Laws.{served-lines}
-use Rattle.bus.proofs.States.{steps, steps-length, steps-all}
-use Rattle.bus.proofs.Lines.{width, fits-at, fits-next, R, mach, typed, line}
-use Rattle.bus.proofs.Shapes.{step-all-shape as shape, served-shape, state-after-shape}
-use Rattle.bus.proofs.served as served
-use Rattle.bus.proofs.served.Symbol as served-def
-use Rattle.bus.proofs.served.Symbol.{name as #bus·served}
-use Rattle.bus.proofs.served.Met as served-thm
-use Rattle.bus.proofs.state_after as state-after
-use Rattle.bus.proofs.state_after.Symbol as state-after-def
-use Rattle.bus.proofs.state_after.Symbol.{name as #bus·state-after}
-use Rattle.bus.proofs.state_after.Met as state-after-thm
+use Rattle.bus.specs.Loops.{fewerOf, statesAfter}
+use Rattle.bus.proofs.Idle.{states-slot, states-other}
+use Rattle.bus.proofs.Laws.{fewer-second}
+use Rattle.bus.proofs.States.{states-fewer, states-length}
+use Rattle.bus.proofs.Lines.{R, T-true, T-false}
+use Rattle.bus.proofs.Shapes.{step-all-shape as shape, fewer-shape, read-slot-all-shape, read-turn-all-shape}
+use Rattle.bus.proofs.fewer as fewer
+use Rattle.bus.proofs.fewer.Symbol as fewer-def
+use Rattle.bus.proofs.fewer.Symbol.{name as #bus·fewer}
+use Rattle.bus.proofs.fewer.Met as fewer-thm
+use Rattle.bus.proofs.read_slot_all as read-slot-all
+use Rattle.bus.proofs.read_slot_all.Symbol as read-slot-all-def
+use Rattle.bus.proofs.read_slot_all.Symbol.{name as #bus·read-slot-all}
+use Rattle.bus.proofs.read_slot_all.Met as read-slot-all-thm
+use Rattle.bus.proofs.read_turn_all as read-turn-all
+use Rattle.bus.proofs.read_turn_all.Symbol as read-turn-all-def
+use Rattle.bus.proofs.read_turn_all.Symbol.{name as #bus·read-turn-all}
+use Rattle.bus.proofs.read_turn_all.Met as read-turn-all-thm
 use Rattle.bus.proofs.step_all.Key.{name as #bus·step-all}
 use Rattle.bus.proofs.step_all as step-all
 use Rattle.bus.proofs.step_all.Statement as stated
 use Rattle.bus.proofs.step_all.Code as code
+use Rattle.bus.proofs.step_all.Code.Mir as mir
 
 module _ {M : Type 1} (𝓤 : URA M) (H : Heap 𝓤) (A : Atoms 𝓤) (W : Given 𝓤 H A) (mem : Memory → SProp 𝓤)
     (run : Routine → Fun 𝓤)
     (𝓣 : Tables 𝓤 H)
-    (known-served : Met 𝓤 H A 𝓣 served-shape (served.clauses 𝓤 H A mem run) #bus·served)
-    (known-state-after : Met 𝓤 H A 𝓣 state-after-shape (state-after.clauses 𝓤 H A mem run) #bus·state-after)
-    (κs : Lfts 2) (qs : Shares 2) (x : RefT (List ℕ)) (x′ : RefT (List LineState)) (v : ℕ) (t : Bool) where
+    (known-fewer : Met 𝓤 H A 𝓣 fewer-shape (fewer.clauses 𝓤 H A mem run) #bus·fewer)
+    (known-read-slot-all : Met 𝓤 H A 𝓣 read-slot-all-shape (read-slot-all.clauses 𝓤 H A mem run) #bus·read-slot-all)
+    (known-read-turn-all : Met 𝓤 H A 𝓣 read-turn-all-shape (read-turn-all.clauses 𝓤 H A mem run) #bus·read-turn-all)
+    (κs : Lfts 2) (qs : Shares 2) (x : RefT (List ℕ)) (x′ : RefT (List LineState)) (c v : ℕ) (t : Bool) where
+  abbrev a : RefT (List ℕ) × (RefT (List LineState) × (ℕ × (ℕ × (Bool × Unit {0}))))
+  a = (x, (x′, (c, (v, (t, tt)))))
+
   abbrev im : List ℕ
   im = x .now
 
   abbrev ys : List LineState
   ys = x′ .now
 
-  abbrev b : ℕ
-  b = x′ .ptr .0
-
-  abbrev o : ℕ
-  o = x′ .ptr .1
-
-  -- how many devices there are, the line states after i turns, that of device i, and what `state_after` returns of it
+  -- how many devices have a line state, and the line states at exit
   abbrev n : ℕ
-  n = servedOf im (length ys)
+  n = fewerOf c (length ys)
 
-  abbrev st : ℕ → List LineState
-  st i = steps im v t i ys
+  abbrev us : List LineState
+  us = statesAfter im ys c v t
 
-  abbrev l : ℕ → LineState
-  l i = lineAt (st i) i
+  -- the parameters, the number and the test, then other locals; behind them the tokens, the image, and the lines at exit
+  abbrev vs : List Cell → List Cell
+  vs ws = has (val x) ∷ has (val x′) ∷ has (vint w64 c) ∷ has (vint w8 v) ∷ has (vbool t) ∷ has (vint w64 n)
+      ∷ has (vint w64 (length ys)) ∷ has (vbool (ltb v 2)) ∷ ws
 
-  abbrev r : ℕ → LineState
-  r i = turnState im i (l i) v t
+  abbrev Had : Blocks (code.function .locals) → List Cell → List (Item 𝓤)
+  Had bs ws = stand (env 𝓤 H (code.function .locals) bs) (void ∷ vs ws)
+      (‵ (flft (κs .0) (qs .0)) ∷ ‵ (flft (κs .1 .0) (qs .1 .0))
+      ∷ ‵ (ShrSlice (named 0) (κs .0) u8 .own x (val x ∷ []))
+      ∷ ‵ (MutSlice (named 1) (κs .1 .0) R .own (to x′ us) (val x′ ∷ [])) ∷ [])
 
-  -- the locals after i turns, and behind them [the row; the open borrow; the image's token; the image]
-  abbrev vs : ℕ → List Cell
-  vs i = has (val x) ∷ has (val x′) ∷ has (vint w8 v) ∷ has (vbool t) ∷ has (vint w64 n) ∷ has (vint w64 i) ∷ void
-      ∷ void
-      ∷ has (vint w64 (length ys)) ∷ []
+  -- the code behind the `if`
+  leaves : (bs : Blocks (code.function .locals)) (ws : List Cell)
+      → Is u64 c (vint w64 c ∷ []) → Is u8 v (vint w8 v ∷ [])
+      → Sq W (Had bs ws) (runs (𝓣 .C) (𝓣 .Λ) (env 𝓤 H (code.function .locals) bs) mir.t-5
+      (atRet (env 𝓤 H (code.function .locals) bs) (End 𝓤 H shape A (step-all.clauses 𝓤 H A mem run) κs qs tt a tt)))
+  leaves bs ws c-is v-is =
+      new ! (of-opd ! (unit-lit !)) refl (tt, tt) $ returns ! (look ! 0 refl) $
+      quits ! (has vunit ∷ vs ws) $
+      finishes 𝓤 H shape A (step-all.clauses 𝓤 H A mem run) κs qs tt a tt W ! tt
+      (tt, (us, (tt, (tt, (tt, tt))))) refl (c-is, (v-is, (refl, tt)))
+      (tt, (states-length im ys c v t, (tt, (tt, (tt, tt))))) (factI 𝓤 _ (emp 𝓤) refl)
 
-  abbrev At : Blocks (code.function .locals) → ℕ → List (Item 𝓤)
-  At bs i = stand (env 𝓤 H (code.function .locals) bs) (void ∷ vs i)
-      (‵ (row R fullShare (st i) b o) ∷ ‵ (Opened R (κs .1 .0) (qs .1 .0) (x′ .name) ys b o)
-      ∷ ‵ (flft (κs .0) (qs .0)) ∷ ‵ (ShrSlice (named 0) (κs .0) u8 .own x (val x ∷ [])) ∷ [])
-
-  walk : Walk 𝓤 H shape A W (step-all.clauses 𝓤 H A mem run) (λ κs a. Unit {0}) 𝓣 code.function κs qs tt
-      (x, (x′, (v, (t, tt)))) tt
-  unfolding steps
+  walk : Walk 𝓤 H shape A W (step-all.clauses 𝓤 H A mem run) (λ κs a. Unit {0}) 𝓣 code.function κs qs tt a tt
   walk are _ =
       let room : Room R (length ys) = are .1 .0 .0 .1 in
-      let few : n ≤ length ys = served-lines im (length ys) in
-      let n-fits : n < 2 ^ 64 = omega (arith, few, room .0) in
-      let v-is : Is u8 v (vint w8 v ∷ []) = are .1 .1 .0 in
-      enters ! shape κs (x, (x′, (v, (t, tt)))) 𝓣 code.function are refl (λ bs.
+      let c-is : Is u64 c (vint w64 c ∷ []) = are .1 .1 .0 in
+      let v-is : Is u8 v (vint w8 v ∷ []) = are .1 .1 .1 .0 in
+      let few : n ≤ length ys = fewer-second c (length ys) in
+      let n-is : Is u64 n (vint w64 n ∷ []) = (refl, omega (arith, few, room .0)) in
+      enters ! shape κs a 𝓣 code.function are refl (λ bs.
       new ! (of-opd ! (count ! refl refl)) refl (tt, record { fits = room .0 }) $
-      asks ! 𝓣 served-shape (served.clauses 𝓤 H A mem run) known-served (κs .0, tt) (qs .0, tt) tt
-      (x, (length ys, tt)) (val x ∷ [], (vint w64 (length ys) ∷ [], tt)) tt ((refl, room .0), tt) (id⊢ 𝓤 _)
+      asks ! 𝓣 fewer-shape (fewer.clauses 𝓤 H A mem run) known-fewer tt tt tt
+      (c, (length ys, tt)) (vint w64 c ∷ [], (vint w64 (length ys) ∷ [], tt)) tt (c-is, ((refl, room .0), tt)) (id⊢ 𝓤 _)
       (λ m ws. m ≡ n) (λ m ws. id⊢ 𝓤 _) n (tt, (tt, tt)) (λ m ws e. (e, refl))
-      (also ! refl (also ! refl (no-more !))) (16 ∷ 18 ∷ []) refl
-      (λ _ _. lands-new ! refl (tt, record { fits = n-fits }) $
-      new ! (of-opd ! (lit ! tt)) refl (tt, record { fits = lit< tt }) $
-      move ! (17 ∷ 16 ∷ []) $ opens-mut ! tt R (κs .1 .0) x′ $ lowers ! 2 16 $
-      whiles ! 𝓣 n (At bs) (λ i. var ! refl) (λ i. var ! refl) refl (λ i. refl) (λ i t. refl) (λ i t. refl)
-      -- a turn of one device: its line state is copied, and the new one is stored
-      (λ i Q small k.
-      let there : i < length ys = omega (arith, small, few) in
-      let within : i < length (st i) = subst (λ (m : ℕ). i < m) (sym (steps-length im v t i ys)) there in
-      let at-fits : i * width < 2 ^ 64 = fits-at i (length ys) (room .1) there in
-      let next-fits : i + 1 < 2 ^ 64 = fits-next i n n-fits small in
-      new ! (bin ! (var ! refl) (lit ! tt) (record { fits = at-fits })) refl (tt, record { fits = at-fits }) $
-      points ! width i (head ! refl refl) (var ! refl) refl tt $
-      sees ! line 16 fullShare (st i) i waitingState b o within refl (λ is.
-      new ! (of-opd ! (elem ! refl (in-row ! line 16 fullShare (st i) i waitingState b o within refl refl))) refl
-      (typed 𝓤 H A W (l i) (mach (l i)) is) $
-      new ! (of-opd ! (var ! refl)) refl (typed 𝓤 H A W (l i) (mach (l i)) is) $
-      asks ! 𝓣 state-after-shape (state-after.clauses 𝓤 H A mem run) known-state-after (κs .0, tt) (qs .0, tt) tt
-      (x, (i, (l i, (v, (t, tt)))))
-      (val x ∷ [], (vint w64 i ∷ [], (mach (l i) ∷ [], (vint w8 v ∷ [], (vbool t ∷ [], tt))))) tt
-      ((refl, omega (arith, next-fits)), (is, (v-is, (refl, tt)))) (id⊢ 𝓤 _) (λ h ws. h ≡ r i) (λ h ws. id⊢ 𝓤 _)
-      (r i) (tt, (tt, (tt, (tt, (tt, tt))))) (λ h ws e. (e, refl))
-      (also ! refl (also ! refl (also ! refl (also ! refl (also ! refl (no-more !)))))) (18 ∷ 19 ∷ []) refl (λ got _.
-      lands-new ! refl (typed 𝓤 H A W (r i) (mach (r i)) got) $
-      renew ! (bin ! (var ! refl) (lit ! tt) (record { fits = at-fits })) refl (tt, record { fits = at-fits }) $
-      points ! width i (head ! refl refl) (var ! refl) refl tt $
-      assigns ! (of-opd ! (var ! refl)) (from ! (hop ! (look ! 14 refl) (stop !)))
-      (onto-row ! line 16 (st i) i waitingState (r i) b o within refl refl got (typed 𝓤 H A W (r i) (mach (r i)) got)) $
-      bump ! refl next-fits tt $ forget ! 7 refl $ forget ! 8 refl $ forget ! 10 refl $ forget ! 11 refl $
-      forget ! 12 refl $ forget ! 13 refl $ forget ! 14 refl $ k)))
-      -- the loop is left: the borrow is closed, and the function returns
-      (new ! (of-opd ! (unit-lit !)) refl (tt, tt) $
-      move ! (16 ∷ 17 ∷ []) $ closes-mut ! tt R (κs .1 .0) (x′ .name) ys (st n) (steps-length im v t n ys) b o room $
-      lowers ! 2 16 $
-      returns ! (look ! 0 refl) $ quits ! (has vunit ∷ vs n) $ move ! (2 ∷ 1 ∷ 3 ∷ 0 ∷ []) $
-      finishes 𝓤 H shape A (step-all.clauses 𝓤 H A mem run) κs qs tt (x, (x′, (v, (t, tt)))) tt W ! tt
-      (tt, (st n, (tt, (tt, tt)))) refl
-      (v-is, (refl, tt)) (tt, (steps-length im v t n ys, (tt, (tt, tt)))) (factI 𝓤 _ (emp 𝓤) (steps-all im v t ys)))))
+      (also ! refl (also ! refl (no-more !))) [] refl (λ _ _. lands-new ! refl (tt, record { fits = n-is .1 }) $
+      new ! (bin ! (var ! refl) (lit ! tt) tt) refl (tt, tt) $ ifs ! (var ! refl)
+      -- a slot
+      (λ Q on held.
+      let slot : v < 2 = ltb-true v 2 (T-true (ltb v 2) held) in
+      again ! refl refl refl refl tt (refl, refl, refl) tt (room .0) $
+      move ! (19 ∷ 17 ∷ []) $ lends ! tt R (κs .1 .0) (qs .1 .0) x′ (length ys) refl (λ α β. lowers ! 3 16 $
+      asks-last ! 𝓣 read-slot-all-shape (read-slot-all.clauses 𝓤 H A mem run) known-read-slot-all (κs .0, (α ∷ [], tt))
+      (qs .0, (fullShare, tt)) tt
+      (x, (under x′ β ys, (n, (t, tt))))
+      (val x ∷ [], (val x′ ∷ [], (vint w64 n ∷ [], (vbool t ∷ [], tt)))) tt (n-is, (refl, tt)) (factI 𝓤 _ (emp 𝓤) few)
+      (λ r zs. zs .1 .0 ≡ statesAfter im ys n 1 t) (λ r zs. id⊢ 𝓤 _)
+      tt (tt, (us, (tt, (tt, tt))))
+      (λ r zs e. (
+        refl,
+        ap (λ (z : List LineState). (tt, (z, (tt, (tt, tt)))))
+            (e ∙ states-slot im ys n v t slot ∙ states-fewer im ys c v t),
+      ))
+      (also ! refl (also ! refl (also ! refl (also ! refl (no-more !))))) (19 ∷ 16 ∷ 20 ∷ 17 ∷ []) refl (λ _ _.
+      move ! (18 ∷ 16 ∷ 20 ∷ []) $ backs ! tt R (κs .1 .0) (qs .1 .0) x′ (length ys) refl room α β us $
+      move ! (18 ∷ 1 ∷ 19 ∷ 0 ∷ []) $ lowers ! 4 16 $ ends-new ! refl (tt, tt) $ on _ (
+      leaves bs (has vunit ∷ has (ptr x′) ∷ has (val x′) ∷ []) c-is v-is))))
+      -- another event
+      (λ Q on failed.
+      let other : 2 ≤ v = ltb-false v 2 (T-false (ltb v 2) failed) in
+      again ! refl refl refl refl tt (refl, refl, refl) tt (room .0) $
+      move ! (19 ∷ 17 ∷ []) $ lends ! tt R (κs .1 .0) (qs .1 .0) x′ (length ys) refl (λ α β. lowers ! 3 16 $
+      asks-last ! 𝓣 read-turn-all-shape (read-turn-all.clauses 𝓤 H A mem run) known-read-turn-all (κs .0, (α ∷ [], tt))
+      (qs .0, (fullShare, tt)) tt
+      (x, (under x′ β ys, (n, (v, tt))))
+      (val x ∷ [], (val x′ ∷ [], (vint w64 n ∷ [], (vint w8 v ∷ [], tt)))) tt (n-is, (v-is, tt))
+      (factI 𝓤 _ (emp 𝓤) (few, other))
+      (λ r zs. zs .1 .0 ≡ statesAfter im ys n v true) (λ r zs. id⊢ 𝓤 _)
+      tt (tt, (us, (tt, (tt, tt))))
+      (λ r zs e. (
+        refl,
+        ap (λ (z : List LineState). (tt, (z, (tt, (tt, tt)))))
+            (e ∙ states-other im ys n v t other ∙ states-fewer im ys c v t),
+      ))
+      (also ! refl (also ! refl (also ! refl (also ! refl (no-more !))))) (19 ∷ 16 ∷ 20 ∷ 17 ∷ []) refl (λ _ _.
+      move ! (18 ∷ 16 ∷ 20 ∷ []) $ backs ! tt R (κs .1 .0) (qs .1 .0) x′ (length ys) refl room α β us $
+      move ! (18 ∷ 1 ∷ 19 ∷ 0 ∷ []) $ lowers ! 4 16 $ ends-new ! refl (tt, tt) $ on _ (
+      leaves bs (void ∷ void ∷ void ∷ has vunit ∷ has (ptr x′) ∷ has (val x′) ∷ []) c-is v-is))))))
 
 pub step-all-spec : {M : Type 1} → stated.statement M
 unfolding code.routine tablesOf
@@ -135,7 +146,9 @@ step-all-spec 𝓤 H 𝓜 𝓖 𝓡 =
     proved 𝓤 H shape (𝓖 .A) (givenOf 𝓤 H 𝓜 𝓖) (step-all.clauses 𝓤 H (𝓖 .A) (𝓜 .mem) (𝓡 .run)) (λ κs a. Unit {0})
     𝓜 𝓡 code.env #bus·step-all code.function (code.unfolded 𝓤 H 𝓜 𝓡) (λ κs a g. factI 𝓤 (Unit {0}) (emp 𝓤) tt)
     (λ κs qs bounds a g. walk 𝓤 H (𝓖 .A) (givenOf 𝓤 H 𝓜 𝓖) (𝓜 .mem) (𝓡 .run) (tablesOf 𝓤 H 𝓜 (tables 𝓤 H 𝓜 𝓡 code.env))
-    (cited 𝓤 H _ 𝓜 𝓡 code.env #bus·served served-def.routine code.calls-bus·served (served-thm.met 𝓤 H 𝓜 𝓖 𝓡))
-    (cited 𝓤 H _ 𝓜 𝓡 code.env #bus·state-after state-after-def.routine code.calls-bus·state-after
-    (state-after-thm.met 𝓤 H 𝓜 𝓖 𝓡))
-    κs qs (a .0) (a .1 .0) (a .1 .1 .0) (a .1 .1 .1 .0))
+    (cited 𝓤 H _ 𝓜 𝓡 code.env #bus·fewer fewer-def.routine code.calls-bus·fewer (fewer-thm.met 𝓤 H 𝓜 𝓖 𝓡))
+    (cited 𝓤 H _ 𝓜 𝓡 code.env #bus·read-slot-all read-slot-all-def.routine code.calls-bus·read-slot-all
+    (read-slot-all-thm.met 𝓤 H 𝓜 𝓖 𝓡))
+    (cited 𝓤 H _ 𝓜 𝓡 code.env #bus·read-turn-all read-turn-all-def.routine code.calls-bus·read-turn-all
+    (read-turn-all-thm.met 𝓤 H 𝓜 𝓖 𝓡))
+    κs qs (a .0) (a .1 .0) (a .1 .1 .0) (a .1 .1 .1 .0) (a .1 .1 .1 .1 .0))
