@@ -1,5 +1,6 @@
 -- The loop of `exchange`: the state after k exchanges, by recursion on k, and that after as many as the search has events it is the search's.
--- Assumes nothing.
+-- A turn of the loop begins with the master's step, so that it ends one exchange and begins the next: what the loop
+-- holds between its turns is stated from the same states. Assumes nothing.
 use Prim.Native.Nat.{ℕ, zero, suc, _+_, _-_, _*_, _<_, _≤_}
 use mathlib.Core.Path.{_≡_, refl, sym, ap, subst, _∙_}
 use mathlib.Core.Bool.{Bool, true, false, not, cond, true≢false}
@@ -84,6 +85,42 @@ module _ (image : List ℕ) where
       let before = exchanges k s in
       let m = before .step .next in
       length-sets (before .codes) (codeBytes * m .passes) (codeCompleted (m .passes) (nextOf m (levelByte (levelIn before)))) ∙ codes-length k s
+
+-- ---- what the loop holds when turn k begins, beside the lines and the trace after k exchanges
+module _ (image : List ℕ) (s : State) where
+  -- the master and the codes that step k - 1 left, and the level of its event
+  abbrev pub masterAt : ℕ → Master
+  masterAt zero = fresh
+  masterAt (suc k) = exchanges image k s .step .next
+
+  abbrev pub levelAt : ℕ → ℕ
+  levelAt zero = 0
+  levelAt (suc k) = levelByte (levelIn image (exchanges image k s))
+
+  abbrev pub codesAt : ℕ → List ℕ
+  codesAt zero = s .codes
+  codesAt (suc k) = exchanges image k s .codes
+
+  pub held-length : (k : ℕ) → length (codesAt k) ≡ length (s .codes)
+  held-length zero = refl
+  held-length (suc k) = codes-length image k s
+
+  -- turn k's step is the one that exchange k starts from
+  pub step-is : s .step ≡ stepOf fresh 0 → (k : ℕ) → stepOf (masterAt k) (levelAt k) ≡ exchanges image k s .step
+  unfolding exchanges
+  step-is e zero = sym e
+  step-is e (suc k) = refl
+
+  -- the codes after turn k's step; the first completes none
+  abbrev pub codesStepped : ℕ → List ℕ
+  codesStepped k =
+      let m = masterAt k in
+      sets (codesAt k) (codeBytes * m .passes) (codeCompleted (m .passes) (nextOf m (levelAt k)))
+
+  pub codes-are : (k : ℕ) → codesStepped k ≡ exchanges image k s .codes
+  unfolding exchanges codeCompleted fresh M.afterLevel M.inRange M.stageInRange M.stepByStage M.withStage
+  codes-are zero = refl
+  codes-are (suc k) = refl
 
 -- ---- bytes at the front of a buffer, and bytes after them
 over-more : (xs vs buffer : List ℕ) → length (xs ++ vs) ≤ length buffer → sets (over xs buffer) (length xs) vs ≡ over (xs ++ vs) buffer
@@ -231,8 +268,16 @@ module _ (image codes₀ trace₀ : List ℕ) (lines₀ : List LineState) (ready
   doing zero h = doing-start
   doing (suc k) h = let d = doing k (omega arith) in doing-next d (must d (hasEvent (exchanges image k start .step .answer)) refl h)
 
-  pub goes : (k : ℕ) → k < N → hasEvent (exchanges image k start .step .answer) ≡ true
-  goes k h = must (doing k (omega arith)) (hasEvent (exchanges image k start .step .answer)) refl h
+  -- where there is an event there is another exchange, and where there is none all are made
+  pub goes : (k : ℕ) → k ≤ N → hasEvent (exchanges image k start .step .answer) ≡ true → k < N
+  goes k h e =
+      let d = doing k h in
+      let r = going-room image demand (sentIn image (exchanges image k start)) (d .going) (sends d e) in
+      let c = d .count in
+      omega arith
+
+  pub ends : (k : ℕ) → k ≤ N → hasEvent (exchanges image k start .step .answer) ≡ false → k ≡ N
+  ends k h e = let d = doing k h in sym (d .count) ∙ ap length (at-end d e .0)
 
   pub stops : hasEvent (exchanges image N start .step .answer) ≡ false
   stops = cannot (doing N (omega arith)) (hasEvent (exchanges image N start .step .answer)) refl (omega arith)

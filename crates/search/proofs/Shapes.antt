@@ -1,5 +1,5 @@
--- A master's step and what a search gives back, as plain data, and the signatures of the search's functions as shapes:
--- a walk cites its own and those of its callees.
+-- A master, its step and what a search gives back, as plain data, and the signatures of the search's functions as
+-- shapes: a walk cites its own and those of its callees.
 -- A parameter that is dropped, added or of another kind is changed here, once, and in the walks' lists of arguments.
 use mathlib.Core.Path.{refl}
 use mathlib.Core.List.{[], _∷_}
@@ -8,14 +8,27 @@ use package.mir.Val.{Val}
 use denote.Builtin.{u8}
 use denote.Struct.Laws as LL
 use Rattle.walks.proofs.Params.{Datum, Shape, mutK, shrK, dataK}
-use Rattle.walks.proofs.Vars.{num, truth}
+use Rattle.walks.proofs.Vars.{num, nil, truth}
 use Rattle.bus.proofs.Lines.{R}
-use Rattle.master.specs.declared.Step.{Step}
+use Rattle.master.proofs.Master as Q
+use Rattle.master.proofs.Master.Laws as Q′
 use Rattle.master.proofs.Step as P
 use Rattle.master.proofs.Step.Laws as P′
 use Rattle.search.specs.declared.Found.{Found}
 use Rattle.search.proofs.Found as F
 use Rattle.search.proofs.Found.Laws as F′
+
+abbrev pub master : Datum
+master = record {
+  type = Q.the-row;
+  ty = Q′.mir;
+  mach = λ m. LL.tuple-val Q.the-type Q′.the-laws (Q.the-type .to m);
+  tells = LL.tells Q.the-type Q′.the-laws;
+  silent = λ x f. refl;
+  lies = λ q x b o. refl;
+  makes = λ 𝓤 H A W. LL.makes Q.the-type Q′.the-plain 𝓤 H A;
+  typed = λ 𝓤 H A W x is. LL.lawful Q.the-type Q′.the-laws 𝓤 H A W .typed x _ is .0;
+}
 
 abbrev pub step : Datum
 step = record {
@@ -41,8 +54,22 @@ found = record {
   typed = λ 𝓤 H A W x is. LL.lawful F.the-type F′.the-laws 𝓤 H A W .typed x _ is .0;
 }
 
-abbrev pub first-step-shape : Shape
-first-step-shape = record { lifetimes = 0; outlives = []; kinds = []; gives = step }
+abbrev pub fresh-shape : Shape
+fresh-shape = record { lifetimes = 0; outlives = []; kinds = []; gives = master }
+
+abbrev pub next-shape : Shape
+next-shape = record { lifetimes = 0; outlives = []; kinds = dataK step ∷ []; gives = master }
+
+abbrev pub put-byte-shape : Shape
+put-byte-shape = record {
+  lifetimes = 1;
+  outlives = [];
+  kinds = mutK 0 tt u8 ∷ dataK (num w64) ∷ dataK (num w8) ∷ [];
+  gives = nil;
+}
+
+abbrev pub level-byte-shape : Shape
+level-byte-shape = record { lifetimes = 0; outlives = []; kinds = dataK truth ∷ []; gives = num w8 }
 
 abbrev pub has-event-shape : Shape
 has-event-shape = record { lifetimes = 0; outlives = []; kinds = dataK step ∷ []; gives = truth }
@@ -50,11 +77,11 @@ has-event-shape = record { lifetimes = 0; outlives = []; kinds = dataK step ∷ 
 abbrev pub event-in-shape : Shape
 event-in-shape = record { lifetimes = 0; outlives = []; kinds = dataK step ∷ []; gives = num w8 }
 
-abbrev pub next-step-shape : Shape
-next-step-shape = record {
-  lifetimes = 2;
+abbrev pub stepped-shape : Shape
+stepped-shape = record {
+  lifetimes = 1;
   outlives = [];
-  kinds = mutK 0 tt u8 ∷ mutK 1 tt u8 ∷ dataK (num w64) ∷ dataK step ∷ dataK (num w8) ∷ dataK truth ∷ [];
+  kinds = mutK 0 tt u8 ∷ dataK master ∷ dataK (num w8) ∷ [];
   gives = step;
 }
 

@@ -14,10 +14,10 @@ ghost use mathlib.Core.Path.{_≡_};
 ghost use Prim.Native.Nat.{_≤_, _<_, _+_, _*_};
 ghost use mathlib.Core.Bool.{cond, _&&_};
 ghost use mathlib.Core.List.{_++_};
-ghost use lib.ListN.{length, take, drop, set, getD};
+ghost use lib.ListN.{length, take, drop, getD};
 ghost use lib.Seq.{sets};
 ghost use Rattle.image.specs.Image.{countOf};
-ghost use Rattle.master.specs.Master.{codeBytes, fresh, nextOf, stepOf};
+ghost use Rattle.master.specs.Master.{codeBytes, nextOf, stepOf};
 ghost use Rattle.master.specs.Drive.{codeCompleted, over};
 ghost use Rattle.bits.specs.Bit.{levelByte};
 ghost use Rattle.bus.specs.Run.{statesOf};
@@ -80,13 +80,6 @@ fn refusal(image: &[u8], codes: usize, trace: usize, lines: usize) -> u32
 
 // ---- one exchange
 
-// The master's first step: whatever its level, it answers the reset.
-fn first_step() -> Step
-    ensures { λ r. ⌜ r ≡ stepOf fresh 0 ⌝ }
-{
-    Master::fresh().step(0)
-}
-
 // Whether a step answered an event, and not the end.
 fn has_event(step: Step) -> bool
     ensures { λ r. ⌜ r ≡ hasEvent (step .answer) ⌝ }
@@ -116,24 +109,15 @@ fn level_byte(level: bool) -> u8
     if level { 1 } else { 0 }
 }
 
-// Writes an event that was sent, gives its level to the master, and stores the code that this step completed, if it completed one.
-fn next_step(
-    codes: &mut [u8],
-    trace: &mut [u8],
-    sent: usize,
-    step: Step,
-    event: u8,
-    level: bool,
-) -> Step
-    ensures { λ r. ⌜ (r ≡ stepOf (step .next) (levelByte level))
-        × (now (codes .exit) ≡ sets (now (codes .entry)) (codeBytes * step .next .passes) (codeCompleted (step .next .passes) (nextOf (step .next) (levelByte level))))
-        × (now (trace .exit) ≡ set (now (trace .entry)) sent event) ⌝ }
+// The master's step; the code that it completed, if it completed one, is stored. The search steps the master nowhere
+// else: the compiler inlines a function of this size only where it has one caller.
+fn stepped(codes: &mut [u8], master: Master, level: u8) -> Step
+    ensures { λ r. ⌜ (r ≡ stepOf master level)
+        × (now (codes .exit) ≡ sets (now (codes .entry)) (codeBytes * master .passes)
+        (codeCompleted (master .passes) (nextOf master level))) ⌝ }
 {
-    bits::put_byte(trace, sent, event);
-    let master = step.next();
     let completed = master.passes();
-    let given = level_byte(level);
-    let step = master.step(given);
+    let step = master.step(level);
     let next = step.next();
     master::keep_code(codes, completed, next);
     step
@@ -215,8 +199,9 @@ fn tally(number: u32, trace: &[u8], sent: usize) -> Found
 
 // ---- the search
 
-// The exchanges of an image that is not refused, on devices that wait: each event goes to the devices as the one before left them, and the
-// level that they answer to the master's next step. Gives the number of events.
+// The exchanges of an image that is not refused, on devices that wait: each event that the master answers goes to the
+// devices as the one before left them, and the level that they answer to the master's next step. The first step is
+// given a level too, which it does not look at. Gives the number of events.
 fn exchange(image: &[u8], codes: &mut [u8], trace: &mut [u8], lines: &mut [LineState]) -> usize
     requires { ⌜ Ready (now image) (now codes) (now trace) (now lines) ⌝ }
     ensures { λ r. ⌜ (r ≡ length (searchOf (now (image .entry)) .trace))
@@ -224,14 +209,22 @@ fn exchange(image: &[u8], codes: &mut [u8], trace: &mut [u8], lines: &mut [LineS
         × (now (trace .exit) ≡ over (searchOf (now (image .entry)) .trace) (now (trace .entry)))
         × (now (lines .exit) ≡ statesOf (searchOf (now (image .entry)) .devices) ++ drop (countOf (now (image .entry))) (now (lines .entry))) ⌝ }
 {
-    let mut step = first_step();
+    let mut master = Master::fresh();
+    let mut level: u8 = 0;
     let mut sent: usize = 0;
-    while has_event(step) {
-        let event = event_in(step);
-        let level = bus::level(image, lines, event);
-        bus::step_all(image, lines, event, level);
-        step = next_step(codes, trace, sent, step, event, level);
-        sent = sent + 1;
+    let mut going = true;
+    while going {
+        let step = stepped(codes, master, level);
+        master = step.next();
+        going = has_event(step);
+        if going {
+            let event = event_in(step);
+            bits::put_byte(trace, sent, event);
+            let line = bus::level(image, lines, event);
+            bus::step_all(image, lines, event, line);
+            level = level_byte(line);
+            sent = sent + 1;
+        }
     }
     sent
 }
