@@ -224,12 +224,13 @@ fn exchange(image: &[u8], codes: &mut [u8], trace: &mut [u8], lines: &mut [LineS
         × (now (trace .exit) ≡ over (searchOf (now (image .entry)) .trace) (now (trace .entry)))
         × (now (lines .exit) ≡ statesOf (searchOf (now (image .entry)) .devices) ++ drop (countOf (now (image .entry))) (now (lines .entry))) ⌝ }
 {
+    let n = bus::device_count(image);
     let mut step = first_step();
     let mut sent: usize = 0;
     while has_event(step) {
         let event = event_in(step);
-        let level = bus::level(image, lines, event);
-        bus::step_all(image, lines, event, level);
+        let level = bus::level(lines, n, event);
+        bus::step_all(image, lines, n, event, level);
         step = next_step(codes, trace, sent, step, event, level);
         sent = sent + 1;
     }
@@ -244,7 +245,8 @@ pub fn search(image: &[u8], codes: &mut [u8], trace: &mut [u8], lines: &mut [Lin
     let number = refusal(image, codes.len(), trace.len(), lines.len());
     let mut sent: usize = 0;
     if number == ACCEPTED {
-        bus::wait_all(image, lines);
+        let n = bus::device_count(image);
+        bus::wait_all(lines, n);
         sent = exchange(image, codes, trace, lines);
     }
     tally(number, trace, sent)

@@ -17,9 +17,10 @@ use Rattle.walks.proofs.Walk.{shares-on, shares-back}
 use Rattle.device.specs.declared.LineState.{LineState}
 use Rattle.master.specs.declared.Step.{Step}
 use Rattle.master.specs.Master.{fresh, stepOf}
+use Rattle.image.specs.Image.{countOf}
 use Rattle.bus.specs.Loops.{levelOn, statesAfter}
 use Rattle.bus.proofs.Lines.{fits-next, R}
-use Rattle.bus.proofs.Shapes.{level-shape, step-all-shape}
+use Rattle.bus.proofs.Shapes.{device-count-shape, level-shape, step-all-shape}
 use Rattle.search.specs.Exchange.{hasEvent, eventIn, Ready}
 use Rattle.search.proofs.Shapes.{step, exchange-shape as shape, first-step-shape, has-event-shape}
 use Rattle.search.proofs.Shapes.{event-in-shape, next-step-shape}
@@ -38,6 +39,10 @@ use Rattle.search.proofs.event_in as event-in
 use Rattle.search.proofs.event_in.Symbol as event-in-def
 use Rattle.search.proofs.event_in.Symbol.{name as #search·event-in}
 use Rattle.search.proofs.event_in.Met as event-in-thm
+use Rattle.bus.proofs.device_count as device-count
+use Rattle.bus.proofs.device_count.Symbol as device-count-def
+use Rattle.bus.proofs.device_count.Symbol.{name as #bus·device-count}
+use Rattle.bus.proofs.device_count.Met as device-count-thm
 use Rattle.bus.proofs.level as level
 use Rattle.bus.proofs.level.Symbol as level-def
 use Rattle.bus.proofs.level.Symbol.{name as #bus·level}
@@ -64,6 +69,7 @@ Ask κs a = Ready (a .0 .now) (a .1 .0 .now) (a .1 .1 .0 .now) (a .1 .1 .1 .0 .n
 module _ {M : Type 1} (𝓤 : URA M) (H : Heap 𝓤) (A : Atoms 𝓤) (W : Given 𝓤 H A) (mem : Memory → SProp 𝓤)
     (run : Routine → Fun 𝓤)
     (𝓣 : Tables 𝓤 H)
+    (known-device-count : Met 𝓤 H A 𝓣 device-count-shape (device-count.clauses 𝓤 H A mem run) #bus·device-count)
     (known-first-step : Met 𝓤 H A 𝓣 first-step-shape (first-step.clauses 𝓤 H A mem run) #search·first-step)
     (known-has-event : Met 𝓤 H A 𝓣 has-event-shape (has-event.clauses 𝓤 H A mem run) #search·has-event)
     (known-event-in : Met 𝓤 H A 𝓣 event-in-shape (event-in.clauses 𝓤 H A mem run) #search·event-in)
@@ -77,7 +83,10 @@ module _ {M : Type 1} (𝓤 : URA M) (H : Heap 𝓤) (A : Atoms 𝓤) (W : Given
   abbrev im : List ℕ
   im = x .now
 
-  -- the state on entry and after k exchanges, event k, and its level
+  -- how many devices there are, the state on entry and after k exchanges, event k, and its level
+  abbrev c : ℕ
+  c = countOf im
+
   abbrev entry : State
   entry = state (stepOf fresh 0) (x₃ .now) (x₂ .now) (x₁ .now)
 
@@ -88,7 +97,7 @@ module _ {M : Type 1} (𝓤 : URA M) (H : Heap 𝓤) (A : Atoms 𝓤) (W : Given
   v k = eventIn (st k .step .answer)
 
   abbrev lv : ℕ → Bool
-  lv k = levelOn im (st k .lines) (v k)
+  lv k = levelOn (st k .lines) c (v k)
 
   -- that the master's step is shown by its machine value
   abbrev Shown : ℕ → Type 0
@@ -101,7 +110,8 @@ module _ {M : Type 1} (𝓤 : URA M) (H : Heap 𝓤) (A : Atoms 𝓤) (W : Given
 
   -- the locals after k exchanges, and behind them the tokens and the slices
   abbrev vs : ℕ → List Cell
-  vs k = has (val x) ∷ has (val x₁) ∷ has (val x₂) ∷ has (val x₃) ∷ has (step .mach (st k .step)) ∷ has (vint w64 k)
+  vs k = has (val x) ∷ has (val x₁) ∷ has (val x₂) ∷ has (val x₃) ∷ has (vint w64 c)
+      ∷ has (step .mach (st k .step)) ∷ has (vint w64 k)
       ∷ []
 
   abbrev At : Blocks (code.function .locals) → ℕ → List (Item 𝓤)
@@ -122,6 +132,11 @@ module _ {M : Type 1} (𝓤 : URA M) (H : Heap 𝓤) (A : Atoms 𝓤) (W : Given
       let n : ℕ = Loop.N im (x₁ .now) (x₂ .now) (x₃ .now) ready in
       let n-fits : n < 2 ^ 64 = omega (arith, fits im (x₁ .now) (x₂ .now) (x₃ .now) ready, room₂ .0) in
       enters ! shape κs a 𝓣 code.function are refl (λ bs.
+      asks ! 𝓣 device-count-shape (device-count.clauses 𝓤 H A mem run) known-device-count (κs .0, tt) (qs .0, tt) tt
+      (x, tt) (val x ∷ [], tt) tt tt (id⊢ 𝓤 _)
+      (λ r ws. r ≡ c) (λ r ws. id⊢ 𝓤 _) c (tt, tt) (λ r ws e. (e, refl)) (also ! refl (no-more !)) (21 ∷ 25 ∷ []) refl
+      (λ c-is _. lands-new ! refl (tt, record { fits = c-is .1 }) $
+      move ! (27 ∷ 21 ∷ 22 ∷ 23 ∷ 28 ∷ 24 ∷ 25 ∷ 26 ∷ []) $ lowers ! 8 21 $
       asks ! 𝓣 first-step-shape (first-step.clauses 𝓤 H A mem run) known-first-step tt tt tt tt tt tt tt (id⊢ 𝓤 _)
       (λ r ws. r ≡ stepOf fresh 0) (λ r ws. id⊢ 𝓤 _) (stepOf fresh 0) tt (λ r ws e. (e, refl)) (no-more !) [] refl
       (λ is₀ _.
@@ -145,38 +160,39 @@ module _ {M : Type 1} (𝓤 : URA M) (H : Heap 𝓤) (A : Atoms 𝓤) (W : Given
       (also ! refl (no-more !)) [] refl (λ v-is _. lands-new ! refl (tt, record { fits = v-is .1 }) $
       -- `level`: the lines are lent to it as `&`
       again ! refl refl refl refl tt (refl, refl, refl) tt (room₃ .0) $
-      move ! (27 ∷ 23 ∷ []) $ shares-on ! tt R (κs .1 .1 .1 .0) (qs .1 .1 .1 .0) (to x₃ (st k .lines))
-      (length (x₃ .now)) len₃ (λ ν δ. lowers ! 3 20 $
-      asks ! 𝓣 level-shape (level.clauses 𝓤 H A mem run) known-level (κs .0, (ν ∷ [], tt)) (qs .0, (fullShare, tt)) tt
-      (x, (under x₃ δ (st k .lines), (v k, tt))) (val x ∷ [], (val x₃ ∷ [], (vint w8 (v k) ∷ [], tt))) tt (v-is, tt)
-      (id⊢ 𝓤 _)
+      move ! (28 ∷ 24 ∷ []) $ shares-on ! tt R (κs .1 .1 .1 .0) (qs .1 .1 .1 .0) (to x₃ (st k .lines))
+      (length (x₃ .now)) len₃ (λ ν δ. lowers ! 3 21 $
+      asks ! 𝓣 level-shape (level.clauses 𝓤 H A mem run) known-level (ν ∷ [], tt) (fullShare, tt) tt
+      (under x₃ δ (st k .lines), (c, (v k, tt))) (val x₃ ∷ [], (vint w64 c ∷ [], (vint w8 (v k) ∷ [], tt))) tt
+      (c-is, (v-is, tt)) (id⊢ 𝓤 _)
       (λ r ws. r ≡ lv k) (λ r ws. id⊢ 𝓤 _) (lv k) (tt, (tt, (tt, tt))) (λ r ws e. (e, refl))
-      (also ! refl (also ! refl (also ! refl (no-more !)))) (23 ∷ 20 ∷ 26 ∷ 21 ∷ []) refl
+      (also ! refl (also ! refl (also ! refl (no-more !)))) (21 ∷ 22 ∷ []) refl
       (λ _ _. lands-new ! refl (tt, tt) $
-      move ! (26 ∷ 20 ∷ []) $ shares-back ! tt R (κs .1 .1 .1 .0) (qs .1 .1 .1 .0) (to x₃ (st k .lines))
+      move ! (28 ∷ 21 ∷ []) $ shares-back ! tt R (κs .1 .1 .1 .0) (qs .1 .1 .1 .0) (to x₃ (st k .lines))
       (length (x₃ .now)) len₃ room₃ ν $
-      move ! (26 ∷ 22 ∷ 23 ∷ 1 ∷ 27 ∷ 24 ∷ 25 ∷ 0 ∷ []) $ lowers ! 8 20 $ move ! (28 ∷ []) $ drop ! $
+      move ! (23 ∷ 24 ∷ 25 ∷ 1 ∷ 26 ∷ 27 ∷ 28 ∷ 0 ∷ []) $ lowers ! 8 21 $ move ! (29 ∷ []) $ drop ! $
       -- `step_all`: the lines are lent to it
       again ! refl refl refl refl tt (refl, refl, refl) tt (room₃ .0) $
-      move ! (27 ∷ 23 ∷ []) $ lends ! tt R (κs .1 .1 .1 .0) (qs .1 .1 .1 .0) (to x₃ (st k .lines)) (length (x₃ .now))
-      len₃ (λ μ ε. lowers ! 3 20 $
+      move ! (28 ∷ 24 ∷ []) $ lends ! tt R (κs .1 .1 .1 .0) (qs .1 .1 .1 .0) (to x₃ (st k .lines)) (length (x₃ .now))
+      len₃ (λ μ ε. lowers ! 3 21 $
       asks ! 𝓣 step-all-shape (step-all.clauses 𝓤 H A mem run) known-step-all (κs .0, (μ ∷ [], tt))
       (qs .0, (fullShare, tt)) tt
-      (x, (under x₃ ε (st k .lines), (v k, (lv k, tt))))
-      (val x ∷ [], (val x₃ ∷ [], (vint w8 (v k) ∷ [], (vbool (lv k) ∷ [], tt)))) tt (v-is, (refl, tt)) (id⊢ 𝓤 _)
-      (λ r zs. zs .1 .0 ≡ st (suc k) .lines) (λ r zs. id⊢ 𝓤 _) tt (tt, (st (suc k) .lines, (tt, (tt, tt))))
-      (λ r zs e. (refl, ap (λ (z : List LineState). (tt, (z, (tt, (tt, tt))))) e))
-      (also ! refl (also ! refl (also ! refl (also ! refl (no-more !))))) (23 ∷ 20 ∷ 26 ∷ 21 ∷ []) refl
+      (x, (under x₃ ε (st k .lines), (c, (v k, (lv k, tt)))))
+      (val x ∷ [], (val x₃ ∷ [], (vint w64 c ∷ [], (vint w8 (v k) ∷ [], (vbool (lv k) ∷ [], tt))))) tt
+      (c-is, (v-is, (refl, tt))) (id⊢ 𝓤 _)
+      (λ r zs. zs .1 .0 ≡ st (suc k) .lines) (λ r zs. id⊢ 𝓤 _) tt (tt, (st (suc k) .lines, (tt, (tt, (tt, tt)))))
+      (λ r zs e. (refl, ap (λ (z : List LineState). (tt, (z, (tt, (tt, (tt, tt)))))) e))
+      (also ! refl (also ! refl (also ! refl (also ! refl (also ! refl (no-more !)))))) (24 ∷ 21 ∷ 27 ∷ 22 ∷ []) refl
       (λ _ _. lands-new ! refl (tt, tt) $
-      move ! (26 ∷ 20 ∷ 28 ∷ []) $ backs ! tt R (κs .1 .1 .1 .0) (qs .1 .1 .1 .0) (to x₃ (st k .lines))
+      move ! (27 ∷ 21 ∷ 29 ∷ []) $ backs ! tt R (κs .1 .1 .1 .0) (qs .1 .1 .1 .0) (to x₃ (st k .lines))
       (length (x₃ .now)) len₃ room₃ μ ε (st (suc k) .lines) $
-      move ! (26 ∷ 22 ∷ 23 ∷ 1 ∷ 27 ∷ 24 ∷ 25 ∷ 0 ∷ []) $ lowers ! 8 20 $
+      move ! (27 ∷ 23 ∷ 24 ∷ 1 ∷ 28 ∷ 25 ∷ 26 ∷ 0 ∷ []) $ lowers ! 8 21 $
       -- `next_step`: the codes and the trace are lent to it
       again ! refl refl refl refl tt (refl, refl, refl) tt (room₁ .0) $
       again ! refl refl refl refl tt (refl, refl, refl) tt (room₂ .0) $
-      move ! (25 ∷ 21 ∷ []) $ lends ! tt u8 (κs .1 .0) (qs .1 .0) (to x₁ (st k .codes)) (length (x₁ .now)) len₁ (λ α β.
-      move ! (27 ∷ 24 ∷ []) $ lends ! tt u8 (κs .1 .1 .0) (qs .1 .1 .0) (to x₂ (st k .trace)) (length (x₂ .now)) len₂
-      (λ α′ β′. lowers ! 6 20 $
+      move ! (26 ∷ 22 ∷ []) $ lends ! tt u8 (κs .1 .0) (qs .1 .0) (to x₁ (st k .codes)) (length (x₁ .now)) len₁ (λ α β.
+      move ! (28 ∷ 25 ∷ []) $ lends ! tt u8 (κs .1 .1 .0) (qs .1 .1 .0) (to x₂ (st k .trace)) (length (x₂ .now)) len₂
+      (λ α′ β′. lowers ! 6 21 $
       asks ! 𝓣 next-step-shape (next-step.clauses 𝓤 H A mem run) known-next-step (α ∷ [], (α′ ∷ [], tt))
       (fullShare, (fullShare, tt)) tt
       (under x₁ β (st k .codes), (under x₂ β′ (st k .trace), (k, (st k .step, (v k, (lv k, tt)))))) (
@@ -195,16 +211,16 @@ module _ {M : Type 1} (𝓤 : URA M) (H : Heap 𝓤) (A : Atoms 𝓤) (W : Given
       (st (suc k) .step) (st (suc k) .codes, (st (suc k) .trace, (tt, (tt, (tt, (tt, tt))))))
       (λ r zs e. (e .0, both (e .1) (e .2)))
       (also ! refl (also ! refl (also ! refl (also ! refl (also ! refl (also ! refl (no-more !)))))))
-      (23 ∷ 20 ∷ 24 ∷ 21 ∷ []) refl (λ is′ _.
+      (24 ∷ 21 ∷ 25 ∷ 22 ∷ []) refl (λ is′ _.
       lands-renew ! refl (step .typed 𝓤 H A W (st (suc k) .step) is′) $
-      move ! (26 ∷ 21 ∷ 28 ∷ []) $ backs ! tt u8 (κs .1 .0) (qs .1 .0) (to x₁ (st k .codes)) (length (x₁ .now)) len₁
+      move ! (27 ∷ 22 ∷ 29 ∷ []) $ backs ! tt u8 (κs .1 .0) (qs .1 .0) (to x₁ (st k .codes)) (length (x₁ .now)) len₁
       room₁ α β (st (suc k) .codes) $
-      move ! (27 ∷ 22 ∷ 28 ∷ []) $ backs ! tt u8 (κs .1 .1 .0) (qs .1 .1 .0) (to x₂ (st k .trace)) (length (x₂ .now))
+      move ! (28 ∷ 23 ∷ 29 ∷ []) $ backs ! tt u8 (κs .1 .1 .0) (qs .1 .1 .0) (to x₂ (st k .trace)) (length (x₂ .now))
       len₂ room₂ α′ β′ (st (suc k) .trace) $
-      move ! (24 ∷ 3 ∷ 1 ∷ 25 ∷ 26 ∷ 2 ∷ 0 ∷ 27 ∷ []) $ lowers ! 8 20 $
-      bump ! refl next-fits tt $ forget ! 7 refl $ forget ! 8 refl $ forget ! 9 refl $ forget ! 10 refl $
-      forget ! 11 refl $ forget ! 12 refl $
-      forget ! 13 refl $ forget ! 14 refl $ forget ! 15 refl $ forget ! 16 refl $ forget ! 17 refl $ forget ! 18 refl $
+      move ! (25 ∷ 3 ∷ 1 ∷ 26 ∷ 27 ∷ 2 ∷ 0 ∷ 28 ∷ []) $ lowers ! 8 21 $
+      bump ! refl next-fits tt $ forget ! 8 refl $ forget ! 9 refl $ forget ! 10 refl $ forget ! 11 refl $
+      forget ! 12 refl $ forget ! 13 refl $
+      forget ! 14 refl $ forget ! 15 refl $ forget ! 16 refl $ forget ! 17 refl $ forget ! 18 refl $ forget ! 19 refl $
       on-to is′))))))))))
       -- the master has ended: the loop is left, and the function returns
       (λ Q is out.
@@ -225,7 +241,7 @@ module _ {M : Type 1} (𝓤 : URA M) (H : Heap 𝓤) (A : Atoms 𝓤) (W : Given
             (x₃ .now) ready,
         lines-done im (x₁ .now) (x₂ .now) (x₃ .now) ready,
       )))))
-      is₀))
+      is₀)))
 
 pub exchange-spec : {M : Type 1} → stated.statement M
 unfolding code.routine tablesOf
@@ -233,6 +249,8 @@ exchange-spec 𝓤 H 𝓜 𝓖 𝓡 =
     proved 𝓤 H shape (𝓖 .A) (givenOf 𝓤 H 𝓜 𝓖) (exchange.clauses 𝓤 H (𝓖 .A) (𝓜 .mem) (𝓡 .run)) Ask
     𝓜 𝓡 code.env #search·exchange code.function (code.unfolded 𝓤 H 𝓜 𝓡) (λ κs a g. id⊢ 𝓤 _)
     (λ κs qs bounds a g. walk 𝓤 H (𝓖 .A) (givenOf 𝓤 H 𝓜 𝓖) (𝓜 .mem) (𝓡 .run) (tablesOf 𝓤 H 𝓜 (tables 𝓤 H 𝓜 𝓡 code.env))
+    (cited 𝓤 H _ 𝓜 𝓡 code.env #bus·device-count device-count-def.routine code.calls-bus·device-count
+    (device-count-thm.met 𝓤 H 𝓜 𝓖 𝓡))
     (cited 𝓤 H _ 𝓜 𝓡 code.env #search·first-step first-step-def.routine code.calls-search·first-step
     (first-step-thm.met 𝓤 H 𝓜 𝓖 𝓡))
     (cited 𝓤 H _ 𝓜 𝓡 code.env #search·has-event has-event-def.routine code.calls-search·has-event
