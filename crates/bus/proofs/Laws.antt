@@ -196,6 +196,14 @@ pub fewer-second : (a b : ℕ) → fewerOf a b ≤ b
 unfolding fewerOf
 fewer-second a b = fewer-at a b (ltb a b) refl
 
+first-at : (a b : ℕ) (t : Bool) → ltb a b ≡ t → a ≤ b → cond t a b ≡ a
+first-at a b true e h = refl
+first-at a b false e h = let k : b ≤ a = ltb-false a b e in omega arith
+
+pub fewer-first : (a b : ℕ) → a ≤ b → fewerOf a b ≡ a
+unfolding fewerOf
+fewer-first a b h = first-at a b (ltb a b) refl h
+
 -- ---- the run's state
 
 pub events-image-length : (trace : List ℕ) (n k : ℕ) (s : RunState) → length (events trace n k s .image) ≡ length (s .image)

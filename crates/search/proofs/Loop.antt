@@ -54,13 +54,13 @@ module _ (image : List ℕ) where
   sentIn s = eventIn (s .step .answer)
 
   abbrev pub levelIn : State → Bool
-  levelIn s = levelOn image (s .lines) (sentIn s)
+  levelIn s = levelOn (s .lines) (countOf image) (sentIn s)
 
   -- exchange k, at a level
   abbrev pub exchangeWith : ℕ → State → Bool → State
   exchangeWith k s level =
       state (stepOf (s .step .next) (levelByte level))
-      (statesAfter image (s .lines) (sentIn s) level)
+      (statesAfter image (s .lines) (countOf image) (sentIn s) level)
       (set (s .trace) k (sentIn s))
       (sets (s .codes) (codeBytes * s .step .next .passes) (codeCompleted (s .step .next .passes) (nextOf (s .step .next) (levelByte level))))
 
@@ -71,7 +71,7 @@ module _ (image : List ℕ) where
   pub lines-length : (k : ℕ) (s : State) → length (exchanges k s .lines) ≡ length (s .lines)
   unfolding exchanges
   lines-length zero s = refl
-  lines-length (suc k) s = states-length image (exchanges k s .lines) (sentIn (exchanges k s)) (levelIn (exchanges k s)) ∙ lines-length k s
+  lines-length (suc k) s = states-length image (exchanges k s .lines) (countOf image) (sentIn (exchanges k s)) (levelIn (exchanges k s)) ∙ lines-length k s
 
   pub trace-length : (k : ℕ) (s : State) → length (exchanges k s .trace) ≡ length (s .trace)
   unfolding exchanges
@@ -220,12 +220,12 @@ module _ (image codes₀ trace₀ : List ℕ) (lines₀ : List LineState) (ready
     taken : take n (s .lines) ≡ d .at
     taken = ap (take n) (d .lined) ∙ take-at (d .at) (drop n lines₀) n (d .going .each)
 
-    level-same : (e : ℕ) → levelOn image (s .lines) e ≡ G.levelIn image (d .at) e
+    level-same : (e : ℕ) → levelOn (s .lines) n e ≡ G.levelIn image (d .at) e
     unfolding levelOn
     level-same e =
         ap (levelAsItIs (eventOf e)) taken ∙ level-in image (accepted-known image (ready .accepted)) (d .at) e (d .going .ranged)
 
-    lines-same : (e : ℕ) → statesAfter image (s .lines) e (G.levelIn image (d .at) e) ≡ linesAfter image (d .at) e ++ drop n lines₀
+    lines-same : (e : ℕ) → statesAfter image (s .lines) n e (G.levelIn image (d .at) e) ≡ linesAfter image (d .at) e ++ drop n lines₀
     unfolding statesAfter
     lines-same e =
         let level = G.levelIn image (d .at) e in

@@ -209,6 +209,7 @@ fn exchange(image: &[u8], codes: &mut [u8], trace: &mut [u8], lines: &mut [LineS
         × (now (trace .exit) ≡ over (searchOf (now (image .entry)) .trace) (now (trace .entry)))
         × (now (lines .exit) ≡ statesOf (searchOf (now (image .entry)) .devices) ++ drop (countOf (now (image .entry))) (now (lines .entry))) ⌝ }
 {
+    let n = bus::device_count(image);
     let mut master = Master::fresh();
     let mut level: u8 = 0;
     let mut sent: usize = 0;
@@ -220,8 +221,8 @@ fn exchange(image: &[u8], codes: &mut [u8], trace: &mut [u8], lines: &mut [LineS
         if going {
             let event = event_in(step);
             bits::put_byte(trace, sent, event);
-            let line = bus::level(image, lines, event);
-            bus::step_all(image, lines, event, line);
+            let line = bus::level(lines, n, event);
+            bus::step_all(image, lines, n, event, line);
             level = level_byte(line);
             sent = sent + 1;
         }
@@ -237,7 +238,8 @@ pub fn search(image: &[u8], codes: &mut [u8], trace: &mut [u8], lines: &mut [Lin
     let number = refusal(image, codes.len(), trace.len(), lines.len());
     let mut sent: usize = 0;
     if number == ACCEPTED {
-        bus::wait_all(image, lines);
+        let n = bus::device_count(image);
+        bus::wait_all(lines, n);
         sent = exchange(image, codes, trace, lines);
     }
     tally(number, trace, sent)

@@ -22,9 +22,10 @@ use Rattle.walks.proofs.Vars.{holds}
 use Rattle.device.specs.declared.LineState.{LineState}
 use Rattle.master.specs.declared.Master.{Master}
 use Rattle.master.specs.Master.{fresh, stepOf}
+use Rattle.image.specs.Image.{countOf}
 use Rattle.bus.specs.Loops.{levelOn}
 use Rattle.bus.proofs.Lines.{fits-next, R}
-use Rattle.bus.proofs.Shapes.{level-shape, step-all-shape}
+use Rattle.bus.proofs.Shapes.{device-count-shape, level-shape, step-all-shape}
 use Rattle.search.specs.Exchange.{hasEvent, eventIn, Ready}
 use Rattle.search.proofs.Shapes.{master, step, exchange-shape as shape, fresh-shape, stepped-shape, next-shape}
 use Rattle.search.proofs.Shapes.{has-event-shape, event-in-shape, put-byte-shape, level-byte-shape}
@@ -57,6 +58,10 @@ use Rattle.bits.proofs.put_byte as put-byte
 use Rattle.bits.proofs.put_byte.Symbol as put-byte-def
 use Rattle.bits.proofs.put_byte.Symbol.{name as #bits·put-byte}
 use Rattle.bits.proofs.put_byte.Met as put-byte-thm
+use Rattle.bus.proofs.device_count as device-count
+use Rattle.bus.proofs.device_count.Symbol as device-count-def
+use Rattle.bus.proofs.device_count.Symbol.{name as #bus·device-count}
+use Rattle.bus.proofs.device_count.Met as device-count-thm
 use Rattle.bus.proofs.level as level
 use Rattle.bus.proofs.level.Symbol as level-def
 use Rattle.bus.proofs.level.Symbol.{name as #bus·level}
@@ -87,6 +92,7 @@ left false _ = refl
 module _ {M : Type 1} (𝓤 : URA M) (H : Heap 𝓤) (A : Atoms 𝓤) (W : Given 𝓤 H A) (mem : Memory → SProp 𝓤)
     (run : Routine → Fun 𝓤)
     (𝓣 : Tables 𝓤 H)
+    (known-device-count : Met 𝓤 H A 𝓣 device-count-shape (device-count.clauses 𝓤 H A mem run) #bus·device-count)
     (known-fresh : Met 𝓤 H A 𝓣 fresh-shape (fresh-fn.clauses 𝓤 H A mem run) #master·fresh)
     (known-stepped : Met 𝓤 H A 𝓣 stepped-shape (stepped.clauses 𝓤 H A mem run) #search·stepped)
     (known-next : Met 𝓤 H A 𝓣 next-shape (next-fn.clauses 𝓤 H A mem run) #master·next)
@@ -103,7 +109,10 @@ module _ {M : Type 1} (𝓤 : URA M) (H : Heap 𝓤) (A : Atoms 𝓤) (W : Given
   abbrev im : List ℕ
   im = x .now
 
-  -- the state on entry and after k exchanges, whether it has an event, event k, and its level
+  -- how many devices there are, the state on entry and after k exchanges, whether it has an event, event k, and its level
+  abbrev c : ℕ
+  c = countOf im
+
   abbrev entry : State
   entry = state (stepOf fresh 0) (x₃ .now) (x₂ .now) (x₁ .now)
 
@@ -117,7 +126,7 @@ module _ {M : Type 1} (𝓤 : URA M) (H : Heap 𝓤) (A : Atoms 𝓤) (W : Given
   v k = eventIn (st k .step .answer)
 
   abbrev lv : ℕ → Bool
-  lv k = levelOn im (st k .lines) (v k)
+  lv k = levelOn (st k .lines) c (v k)
 
   -- what turn k starts with
   abbrev ma : ℕ → Master
@@ -136,8 +145,8 @@ module _ {M : Type 1} (𝓤 : URA M) (H : Heap 𝓤) (A : Atoms 𝓤) (W : Given
   -- the locals between two turns: m steps and k exchanges were made, and the loop goes on or not; behind them the
   -- tokens and the slices
   abbrev vs : Bool → ℕ → ℕ → List Cell
-  vs g m k = has (val x) ∷ has (val x₁) ∷ has (val x₂) ∷ has (val x₃) ∷ has (master .mach (ma m)) ∷ has (vint w8 (le k))
-      ∷ has (vint w64 k) ∷ has (vbool g) ∷ []
+  vs g m k = has (val x) ∷ has (val x₁) ∷ has (val x₂) ∷ has (val x₃) ∷ has (vint w64 c)
+      ∷ has (master .mach (ma m)) ∷ has (vint w8 (le k)) ∷ has (vint w64 k) ∷ has (vbool g) ∷ []
 
   abbrev Held : Blocks (code.function .locals) → Bool → ℕ → ℕ → List (Item 𝓤)
   Held bs g m k = stand (env 𝓤 H (code.function .locals) bs) (void ∷ vs g m k)
@@ -162,6 +171,11 @@ module _ {M : Type 1} (𝓤 : URA M) (H : Heap 𝓤) (A : Atoms 𝓤) (W : Given
       let n : ℕ = Loop.N im (x₁ .now) (x₂ .now) (x₃ .now) ready in
       let n-fits : n < 2 ^ 64 = omega (arith, fits im (x₁ .now) (x₂ .now) (x₃ .now) ready, room₂ .0) in
       enters ! shape κs a 𝓣 code.function are refl (λ bs.
+      asks ! 𝓣 device-count-shape (device-count.clauses 𝓤 H A mem run) known-device-count (κs .0, tt) (qs .0, tt) tt
+      (x, tt) (val x ∷ [], tt) tt tt (id⊢ 𝓤 _)
+      (λ r zs. r ≡ c) (λ r zs. id⊢ 𝓤 _) c (tt, tt) (λ r zs e. (e, refl)) (also ! refl (no-more !)) (24 ∷ 28 ∷ []) refl
+      (λ c-is _. lands-new ! refl (tt, record { fits = c-is .1 }) $
+      move ! (30 ∷ 24 ∷ 25 ∷ 26 ∷ 31 ∷ 27 ∷ 28 ∷ 29 ∷ []) $ lowers ! 8 24 $
       asks ! 𝓣 fresh-shape (fresh-fn.clauses 𝓤 H A mem run) known-fresh tt tt tt
       tt tt tt tt (id⊢ 𝓤 _)
       (λ r zs. r ≡ fresh) (λ r zs. id⊢ 𝓤 _) fresh tt
@@ -179,8 +193,8 @@ module _ {M : Type 1} (𝓤 : URA M) (H : Heap 𝓤) (A : Atoms 𝓤) (W : Given
       let k-fits : k < 2 ^ 64 = omega (arith, few, n-fits) in
       new ! (of-opd ! (var ! refl)) refl (tt, tt) $ stays ! (var ! refl) $
       again ! refl refl refl refl tt (refl, refl, refl) tt (room₁ .0) $
-      move ! (28 ∷ 24 ∷ []) $ lends ! tt u8 (κs .1 .0) (qs .1 .0) (to x₁ (co k)) (length (x₁ .now)) len₁
-      (λ α β. lowers ! 3 23 $
+      move ! (29 ∷ 25 ∷ []) $ lends ! tt u8 (κs .1 .0) (qs .1 .0) (to x₁ (co k)) (length (x₁ .now)) len₁
+      (λ α β. lowers ! 3 24 $
       asks ! 𝓣 stepped-shape (stepped.clauses 𝓤 H A mem run) known-stepped (α ∷ [], tt) (fullShare, tt) tt
       (under x₁ β (co k), (ma k, (le k, tt))) (val x₁ ∷ [], (master .mach (ma k) ∷ [], (vint w8 (le k) ∷ [], tt))) tt
       (shown .0, ((refl, shown .1), tt)) (id⊢ 𝓤 _)
@@ -190,11 +204,11 @@ module _ {M : Type 1} (𝓤 : URA M) (H : Heap 𝓤) (A : Atoms 𝓤) (W : Given
         e .0 ∙ step-is im entry refl k,
         ap (λ (z : List ℕ). (z, (tt, (tt, tt)))) (e .1 ∙ codes-are im entry k),
       ))
-      (also ! refl (also ! refl (also ! refl (no-more !)))) (23 ∷ 24 ∷ []) refl
+      (also ! refl (also ! refl (also ! refl (no-more !)))) (24 ∷ 25 ∷ []) refl
       (λ is _. lands-new ! refl (step .typed 𝓤 H A W (st k .step) is) $
-      move ! (30 ∷ 23 ∷ 31 ∷ []) $ backs ! tt u8 (κs .1 .0) (qs .1 .0) (to x₁ (co k)) (length (x₁ .now)) len₁
+      move ! (31 ∷ 24 ∷ 32 ∷ []) $ backs ! tt u8 (κs .1 .0) (qs .1 .0) (to x₁ (co k)) (length (x₁ .now)) len₁
       room₁ α β (st k .codes) $
-      move ! (25 ∷ 1 ∷ 26 ∷ 27 ∷ 28 ∷ 0 ∷ 29 ∷ 30 ∷ []) $ lowers ! 8 23 $
+      move ! (26 ∷ 1 ∷ 27 ∷ 28 ∷ 29 ∷ 0 ∷ 30 ∷ 31 ∷ []) $ lowers ! 8 24 $
       asks ! 𝓣 next-shape (next-fn.clauses 𝓤 H A mem run) known-next tt tt tt
       (st k .step, tt) (step .mach (st k .step) ∷ [], tt) tt (is, tt) (id⊢ 𝓤 _)
       (λ r zs. r ≡ ma (suc k)) (λ r zs. id⊢ 𝓤 _) (ma (suc k)) (tt, tt)
@@ -216,58 +230,58 @@ module _ {M : Type 1} (𝓤 : URA M) (H : Heap 𝓤) (A : Atoms 𝓤) (W : Given
       (λ r zs e. (e, refl)) (also ! refl (no-more !)) [] refl
       (λ v-is _. lands-new ! refl (tt, record { fits = v-is .1 }) $
       again ! refl refl refl refl tt (refl, refl, refl) tt (room₂ .0) $
-      move ! (29 ∷ 25 ∷ []) $ lends ! tt u8 (κs .1 .1 .0) (qs .1 .1 .0) (to x₂ (st k .trace)) (length (x₂ .now)) len₂
-      (λ α′ β′. lowers ! 3 23 $
+      move ! (30 ∷ 26 ∷ []) $ lends ! tt u8 (κs .1 .1 .0) (qs .1 .1 .0) (to x₂ (st k .trace)) (length (x₂ .now)) len₂
+      (λ α′ β′. lowers ! 3 24 $
       asks ! 𝓣 put-byte-shape (put-byte.clauses 𝓤 H A mem run) known-put-byte (α′ ∷ [], tt) (fullShare, tt) tt
       (under x₂ β′ (st k .trace), (k, (v k, tt))) (val x₂ ∷ [], (vint w64 k ∷ [], (vint w8 (v k) ∷ [], tt))) tt
       ((refl, k-fits), (v-is, tt)) (id⊢ 𝓤 _)
       (λ r zs. zs .0 ≡ st (suc k) .trace) (λ r zs. id⊢ 𝓤 _) tt (st (suc k) .trace, (tt, (tt, tt)))
       (λ r zs e. (refl, ap (λ (z : List ℕ). (z, (tt, (tt, tt)))) e))
-      (also ! refl (also ! refl (also ! refl (no-more !)))) (23 ∷ 24 ∷ []) refl
+      (also ! refl (also ! refl (also ! refl (no-more !)))) (24 ∷ 25 ∷ []) refl
       (λ _ _. lands-new ! refl (tt, tt) $
-      move ! (30 ∷ 23 ∷ 31 ∷ []) $ backs ! tt u8 (κs .1 .1 .0) (qs .1 .1 .0) (to x₂ (st k .trace)) (length (x₂ .now))
+      move ! (31 ∷ 24 ∷ 32 ∷ []) $ backs ! tt u8 (κs .1 .1 .0) (qs .1 .1 .0) (to x₂ (st k .trace)) (length (x₂ .now))
       len₂ room₂ α′ β′ (st (suc k) .trace) $
-      move ! (25 ∷ 26 ∷ 1 ∷ 27 ∷ 28 ∷ 29 ∷ 0 ∷ 30 ∷ []) $ lowers ! 8 23 $
+      move ! (26 ∷ 27 ∷ 1 ∷ 28 ∷ 29 ∷ 30 ∷ 0 ∷ 31 ∷ []) $ lowers ! 8 24 $
       -- `level`: the lines are lent to it as `&`
       again ! refl refl refl refl tt (refl, refl, refl) tt (room₃ .0) $
-      move ! (30 ∷ 26 ∷ []) $ shares-on ! tt R (κs .1 .1 .1 .0) (qs .1 .1 .1 .0) (to x₃ (st k .lines))
-      (length (x₃ .now)) len₃ (λ ν δ. lowers ! 3 23 $
-      asks ! 𝓣 level-shape (level.clauses 𝓤 H A mem run) known-level (κs .0, (ν ∷ [], tt)) (qs .0, (fullShare, tt)) tt
-      (x, (under x₃ δ (st k .lines), (v k, tt))) (val x ∷ [], (val x₃ ∷ [], (vint w8 (v k) ∷ [], tt))) tt (v-is, tt)
-      (id⊢ 𝓤 _)
+      move ! (31 ∷ 27 ∷ []) $ shares-on ! tt R (κs .1 .1 .1 .0) (qs .1 .1 .1 .0) (to x₃ (st k .lines))
+      (length (x₃ .now)) len₃ (λ ν δ. lowers ! 3 24 $
+      asks ! 𝓣 level-shape (level.clauses 𝓤 H A mem run) known-level (ν ∷ [], tt) (fullShare, tt) tt
+      (under x₃ δ (st k .lines), (c, (v k, tt))) (val x₃ ∷ [], (vint w64 c ∷ [], (vint w8 (v k) ∷ [], tt))) tt
+      (c-is, (v-is, tt)) (id⊢ 𝓤 _)
       (λ r zs. r ≡ lv k) (λ r zs. id⊢ 𝓤 _) (lv k) (tt, (tt, (tt, tt)))
-      (λ r zs e. (e, refl)) (also ! refl (also ! refl (also ! refl (no-more !)))) (26 ∷ 23 ∷ 29 ∷ 24 ∷ []) refl
+      (λ r zs e. (e, refl)) (also ! refl (also ! refl (also ! refl (no-more !)))) (24 ∷ 25 ∷ []) refl
       (λ _ _. lands-new ! refl (tt, tt) $
-      move ! (29 ∷ 23 ∷ []) $ shares-back ! tt R (κs .1 .1 .1 .0) (qs .1 .1 .1 .0) (to x₃ (st k .lines))
+      move ! (31 ∷ 24 ∷ []) $ shares-back ! tt R (κs .1 .1 .1 .0) (qs .1 .1 .1 .0) (to x₃ (st k .lines))
       (length (x₃ .now)) len₃ room₃ ν $
-      move ! (29 ∷ 25 ∷ 26 ∷ 1 ∷ 30 ∷ 27 ∷ 28 ∷ 0 ∷ []) $ lowers ! 8 23 $ move ! (31 ∷ []) $ drop ! $
+      move ! (26 ∷ 27 ∷ 28 ∷ 1 ∷ 29 ∷ 30 ∷ 31 ∷ 0 ∷ []) $ lowers ! 8 24 $ move ! (32 ∷ []) $ drop ! $
       -- `step_all`: the lines are lent to it
       again ! refl refl refl refl tt (refl, refl, refl) tt (room₃ .0) $
-      move ! (30 ∷ 26 ∷ []) $ lends ! tt R (κs .1 .1 .1 .0) (qs .1 .1 .1 .0) (to x₃ (st k .lines)) (length (x₃ .now))
-      len₃ (λ μ ε. lowers ! 3 23 $
+      move ! (31 ∷ 27 ∷ []) $ lends ! tt R (κs .1 .1 .1 .0) (qs .1 .1 .1 .0) (to x₃ (st k .lines)) (length (x₃ .now))
+      len₃ (λ μ ε. lowers ! 3 24 $
       asks ! 𝓣 step-all-shape (step-all.clauses 𝓤 H A mem run) known-step-all (κs .0, (μ ∷ [], tt))
       (qs .0, (fullShare, tt)) tt
-      (x, (under x₃ ε (st k .lines), (v k, (lv k, tt))))
-      (val x ∷ [], (val x₃ ∷ [], (vint w8 (v k) ∷ [], (vbool (lv k) ∷ [], tt)))) tt
-      (v-is, (refl, tt)) (id⊢ 𝓤 _)
-      (λ r zs. zs .1 .0 ≡ st (suc k) .lines) (λ r zs. id⊢ 𝓤 _) tt (tt, (st (suc k) .lines, (tt, (tt, tt))))
-      (λ r zs e. (refl, ap (λ (z : List LineState). (tt, (z, (tt, (tt, tt))))) e))
-      (also ! refl (also ! refl (also ! refl (also ! refl (no-more !))))) (26 ∷ 23 ∷ 29 ∷ 24 ∷ []) refl
+      (x, (under x₃ ε (st k .lines), (c, (v k, (lv k, tt)))))
+      (val x ∷ [], (val x₃ ∷ [], (vint w64 c ∷ [], (vint w8 (v k) ∷ [], (vbool (lv k) ∷ [], tt))))) tt
+      (c-is, (v-is, (refl, tt))) (id⊢ 𝓤 _)
+      (λ r zs. zs .1 .0 ≡ st (suc k) .lines) (λ r zs. id⊢ 𝓤 _) tt (tt, (st (suc k) .lines, (tt, (tt, (tt, tt)))))
+      (λ r zs e. (refl, ap (λ (z : List LineState). (tt, (z, (tt, (tt, (tt, tt)))))) e))
+      (also ! refl (also ! refl (also ! refl (also ! refl (also ! refl (no-more !)))))) (27 ∷ 24 ∷ 30 ∷ 25 ∷ []) refl
       (λ _ _. lands-renew ! refl (tt, tt) $
-      move ! (29 ∷ 23 ∷ 31 ∷ []) $ backs ! tt R (κs .1 .1 .1 .0) (qs .1 .1 .1 .0) (to x₃ (st k .lines))
+      move ! (30 ∷ 24 ∷ 32 ∷ []) $ backs ! tt R (κs .1 .1 .1 .0) (qs .1 .1 .1 .0) (to x₃ (st k .lines))
       (length (x₃ .now)) len₃ room₃ μ ε (st (suc k) .lines) $
-      move ! (29 ∷ 25 ∷ 26 ∷ 1 ∷ 30 ∷ 27 ∷ 28 ∷ 0 ∷ []) $ lowers ! 8 23 $
+      move ! (30 ∷ 26 ∷ 27 ∷ 1 ∷ 31 ∷ 28 ∷ 29 ∷ 0 ∷ []) $ lowers ! 8 24 $
       asks ! 𝓣 level-byte-shape (level-byte.clauses 𝓤 H A mem run) known-level-byte tt tt tt
       (lv k, tt) (vbool (lv k) ∷ [], tt) tt (refl, tt) (id⊢ 𝓤 _)
       (λ r zs. r ≡ le (suc k)) (λ r zs. id⊢ 𝓤 _) (le (suc k)) (tt, tt)
       (λ r zs e. (e, refl)) (also ! refl (no-more !)) [] refl
       (λ le-is _. lands-renew ! refl (tt, record { fits = le-is .1 }) $
-      bump ! refl next-fits tt $ forget ! 9 refl $ forget ! 10 refl $ forget ! 11 refl $ forget ! 12 refl $
-      forget ! 13 refl $ forget ! 14 refl $ forget ! 15 refl $ forget ! 16 refl $ forget ! 17 refl $ forget ! 18 refl $
-      forget ! 19 refl $ forget ! 20 refl $ forget ! 21 refl $
+      bump ! refl next-fits tt $ forget ! 10 refl $ forget ! 11 refl $ forget ! 12 refl $ forget ! 13 refl $
+      forget ! 14 refl $ forget ! 15 refl $ forget ! 16 refl $ forget ! 17 refl $ forget ! 18 refl $ forget ! 19 refl $
+      forget ! 20 refl $ forget ! 21 refl $ forget ! 22 refl $
       told bs (suc k) (suc k) Q (holds (more k) held) (on-to small (is′, le-is .1)))))))))))
       -- it has ended
-      (λ failed. skips ! $ forget ! 9 refl $ forget ! 12 refl $ forget ! 13 refl $ forget ! 14 refl $
+      (λ failed. skips ! $ forget ! 10 refl $ forget ! 13 refl $ forget ! 14 refl $ forget ! 15 refl $
       told bs (suc k) k Q (left (more k) failed)
       (done (ends im (x₁ .now) (x₂ .now) (x₃ .now) ready k few (left (more k) failed)))))))))
       -- the loop is left, and the function returns
@@ -283,7 +297,7 @@ module _ {M : Type 1} (𝓤 : URA M) (H : Heap 𝓤) (A : Atoms 𝓤) (W : Given
         trace-done im (x₁ .now) (x₂ .now) (x₃ .now) ready,
         lines-done im (x₁ .now) (x₂ .now) (x₃ .now) ready,
       ))))
-      (is₀, lit< tt)))
+      (is₀, lit< tt))))
 
 pub exchange-spec : {M : Type 1} → stated.statement M
 unfolding code.routine tablesOf
@@ -291,6 +305,8 @@ exchange-spec 𝓤 H 𝓜 𝓖 𝓡 =
     proved 𝓤 H shape (𝓖 .A) (givenOf 𝓤 H 𝓜 𝓖) (exchange.clauses 𝓤 H (𝓖 .A) (𝓜 .mem) (𝓡 .run)) Ask
     𝓜 𝓡 code.env #search·exchange code.function (code.unfolded 𝓤 H 𝓜 𝓡) (λ κs a g. id⊢ 𝓤 _)
     (λ κs qs bounds a g. walk 𝓤 H (𝓖 .A) (givenOf 𝓤 H 𝓜 𝓖) (𝓜 .mem) (𝓡 .run) (tablesOf 𝓤 H 𝓜 (tables 𝓤 H 𝓜 𝓡 code.env))
+    (cited 𝓤 H _ 𝓜 𝓡 code.env #bus·device-count device-count-def.routine code.calls-bus·device-count
+    (device-count-thm.met 𝓤 H 𝓜 𝓖 𝓡))
     (cited 𝓤 H _ 𝓜 𝓡 code.env #master·fresh fresh-fn-def.routine code.calls-master·Master·fresh
     (fresh-fn-thm.met 𝓤 H 𝓜 𝓖 𝓡))
     (cited 𝓤 H _ 𝓜 𝓡 code.env #search·stepped stepped-def.routine code.calls-search·stepped (stepped-thm.met 𝓤 H 𝓜 𝓖 𝓡))

@@ -24,7 +24,7 @@ use Rattle.master.specs.Master.{fresh, stepOf}
 use Rattle.master.specs.Drive.{over}
 use Rattle.bus.specs.Run.{statesOf}
 use Rattle.bus.proofs.Lines.{R}
-use Rattle.bus.proofs.Shapes.{wait-all-shape}
+use Rattle.bus.proofs.Shapes.{device-count-shape, wait-all-shape}
 use Rattle.discovery.specs.Search.{searchOf}
 use Rattle.discovery.specs.Searched.{Searched}
 use Rattle.discovery.specs.Words.{Bytes}
@@ -40,6 +40,10 @@ use Rattle.search.proofs.refusal as refusal
 use Rattle.search.proofs.refusal.Symbol as refusal-def
 use Rattle.search.proofs.refusal.Symbol.{name as #search·refusal}
 use Rattle.search.proofs.refusal.Met as refusal-thm
+use Rattle.bus.proofs.device_count as device-count
+use Rattle.bus.proofs.device_count.Symbol as device-count-def
+use Rattle.bus.proofs.device_count.Symbol.{name as #bus·device-count}
+use Rattle.bus.proofs.device_count.Met as device-count-thm
 use Rattle.bus.proofs.wait_all as wait-all
 use Rattle.bus.proofs.wait_all.Symbol as wait-all-def
 use Rattle.bus.proofs.wait_all.Symbol.{name as #bus·wait-all}
@@ -62,6 +66,7 @@ module _ {M : Type 1} (𝓤 : URA M) (H : Heap 𝓤) (A : Atoms 𝓤) (W : Given
     (run : Routine → Fun 𝓤)
     (𝓣 : Tables 𝓤 H)
     (known-refusal : Met 𝓤 H A 𝓣 refusal-shape (refusal.clauses 𝓤 H A mem run) #search·refusal)
+    (known-device-count : Met 𝓤 H A 𝓣 device-count-shape (device-count.clauses 𝓤 H A mem run) #bus·device-count)
     (known-wait-all : Met 𝓤 H A 𝓣 wait-all-shape (wait-all.clauses 𝓤 H A mem run) #bus·wait-all)
     (known-exchange : Met 𝓤 H A 𝓣 exchange-shape (exchange.clauses 𝓤 H A mem run) #search·exchange)
     (known-tally : Met 𝓤 H A 𝓣 tally-shape (tally.clauses 𝓤 H A mem run) #search·tally)
@@ -114,7 +119,7 @@ module _ {M : Type 1} (𝓤 : URA M) (H : Heap 𝓤) (A : Atoms 𝓤) (W : Given
   -- slices at lists
   abbrev vs : ℕ → List Cell
   vs c = has (val x) ∷ has (val x₁) ∷ has (val x₂) ∷ has (val x₃) ∷ has (vint w32 e) ∷ has (vint w64 c)
-      ∷ has (vint w64 (length codes)) ∷ has (vint w64 (length trace)) ∷ has (vint w64 (length ys))
+      ∷ void ∷ has (vint w64 (length codes)) ∷ has (vint w64 (length trace)) ∷ has (vint w64 (length ys))
       ∷ has (vbool (eqb e 0)) ∷ []
 
   abbrev Had : Blocks (code.function .locals) → ℕ → List ℕ → List ℕ → List LineState → List (Item 𝓤)
@@ -137,17 +142,17 @@ module _ {M : Type 1} (𝓤 : URA M) (H : Heap 𝓤) (A : Atoms 𝓤) (W : Given
   unfolding foundIn
   tallies room₂ bs c cs′ tr′ ls′ e-is c-is few said ok len₁ len₂ len₃ =
       again ! refl refl refl refl tt (refl, refl, refl) tt (room₂ .0) $
-      move ! (29 ∷ 25 ∷ []) $ shares-on ! tt u8 (κs .1 .1 .0) (qs .1 .1 .0) (to x₂ tr′) (length trace) len₂
-      (λ ν δ. lowers ! 3 23 $
+      move ! (30 ∷ 26 ∷ []) $ shares-on ! tt u8 (κs .1 .1 .0) (qs .1 .1 .0) (to x₂ tr′) (length trace) len₂
+      (λ ν δ. lowers ! 3 24 $
       asks ! 𝓣 tally-shape (tally.clauses 𝓤 H A mem run) known-tally (ν ∷ [], tt) (fullShare, tt) tt
       (e, (under x₂ δ tr′, (c, tt))) (vint w32 e ∷ [], (val x₂ ∷ [], (vint w64 c ∷ [], tt))) tt (e-is, (c-is, tt))
       (factI 𝓤 _ (emp 𝓤) few)
       (λ r ws. r ≡ foundIn e (take c tr′)) (λ r ws. id⊢ 𝓤 _) (foundIn e (take c tr′)) (tt, (tt, (tt, tt)))
       (λ r ws p. (p, refl))
-      (also ! refl (also ! refl (also ! refl (no-more !)))) (23 ∷ 24 ∷ []) refl
+      (also ! refl (also ! refl (also ! refl (no-more !)))) (24 ∷ 25 ∷ []) refl
       (λ is _. lands-new ! refl (found .typed 𝓤 H A W (foundIn e (take c tr′)) is) $
-      move ! (30 ∷ 23 ∷ []) $ shares-back ! tt u8 (κs .1 .1 .0) (qs .1 .1 .0) (to x₂ tr′) (length trace) len₂ room₂ ν $
-      move ! (25 ∷ 26 ∷ 1 ∷ 27 ∷ 28 ∷ 29 ∷ 0 ∷ 30 ∷ []) $ lowers ! 8 23 $ move ! (31 ∷ []) $ drop ! $
+      move ! (31 ∷ 24 ∷ []) $ shares-back ! tt u8 (κs .1 .1 .0) (qs .1 .1 .0) (to x₂ tr′) (length trace) len₂ room₂ ν $
+      move ! (26 ∷ 27 ∷ 1 ∷ 28 ∷ 29 ∷ 30 ∷ 0 ∷ 31 ∷ []) $ lowers ! 8 24 $ move ! (32 ∷ []) $ drop ! $
       returns ! (look ! 0 refl) $ quits ! (has (found .mach (foundIn e (take c tr′))) ∷ vs c
       ++ void ∷ void ∷ void ∷ void ∷ void ∷ void ∷ void ∷ void ∷ void ∷ has (ptr x₂) ∷ has (val x₂) ∷ []) $
       finishes 𝓤 H shape A (search′.clauses 𝓤 H A mem run) κs qs tt a tt W ! (foundIn e (take c tr′))
@@ -170,9 +175,9 @@ module _ {M : Type 1} (𝓤 : URA M) (H : Heap 𝓤) (A : Atoms 𝓤) (W : Given
       ((refl, room₁ .0), ((refl, room₂ .0), ((refl, room₃ .0), tt))) (id⊢ 𝓤 _) (λ r ws. (r ≡ e) × Bytes im)
       (λ r ws. id⊢ 𝓤 _)
       e (tt, (tt, (tt, (tt, tt)))) (λ r ws p. (p .0, refl))
-      (also ! refl (also ! refl (also ! refl (also ! refl (no-more !))))) (23 ∷ 27 ∷ []) refl
+      (also ! refl (also ! refl (also ! refl (also ! refl (no-more !))))) (24 ∷ 28 ∷ []) refl
       (λ e-is told. lands-new ! refl (tt, record { fits = e-is .1 }) $
-      move ! (29 ∷ 23 ∷ 24 ∷ 25 ∷ 30 ∷ 26 ∷ 27 ∷ 28 ∷ []) $ lowers ! 8 23 $
+      move ! (30 ∷ 24 ∷ 25 ∷ 26 ∷ 31 ∷ 27 ∷ 28 ∷ 29 ∷ []) $ lowers ! 8 24 $
       new ! (of-opd ! (lit ! tt)) refl (tt, record { fits = lit< tt }) $
       new ! (bin ! (var ! refl) (lit ! tt) tt) refl (tt, tt) $ ifs ! (var ! refl)
       -- it is not refused
@@ -187,27 +192,31 @@ module _ {M : Type 1} (𝓤 : URA M) (H : Heap 𝓤) (A : Atoms 𝓤) (W : Given
       ∙ trace-length im n start in
       let len₃ : length ls⁺ ≡ length us = ap length (sym (lines-done im codes trace us ready′))
       ∙ lines-length im n start in
+      asks ! 𝓣 device-count-shape (device-count.clauses 𝓤 H A mem run) known-device-count (κs .0, tt) (qs .0, tt) tt
+      (x, tt) (val x ∷ [], tt) tt tt (id⊢ 𝓤 _)
+      (λ r ws. r ≡ countOf im) (λ r ws. id⊢ 𝓤 _) (countOf im) (tt, tt) (λ r ws p. (p, refl)) (also ! refl (no-more !))
+      (24 ∷ 28 ∷ []) refl (λ c-is _. lands-new ! refl (tt, record { fits = c-is .1 }) $
+      move ! (30 ∷ 24 ∷ 25 ∷ 26 ∷ 31 ∷ 27 ∷ 28 ∷ 29 ∷ []) $ lowers ! 8 24 $
       -- `wait_all`: the lines are lent to it
       again ! refl refl refl refl tt (refl, refl, refl) tt (room₃ .0) $
-      move ! (30 ∷ 26 ∷ []) $ lends ! tt R (κs .1 .1 .1 .0) (qs .1 .1 .1 .0) (to x₃ ys) (length ys) refl
-      (λ ν δ. lowers ! 3 23 $
-      asks ! 𝓣 wait-all-shape (wait-all.clauses 𝓤 H A mem run) known-wait-all (κs .0, (ν ∷ [], tt))
-      (qs .0, (fullShare, tt)) tt
-      (x, (under x₃ δ ys, tt)) (val x ∷ [], (val x₃ ∷ [], tt)) tt tt (id⊢ 𝓤 _)
-      (λ r zs. zs .1 .0 ≡ us) (λ r zs. id⊢ 𝓤 _) tt (tt, (us, tt))
-      (λ r zs p. (refl, ap (λ (z : List LineState). (tt, (z, tt))) p))
-      (also ! refl (also ! refl (no-more !))) (26 ∷ 23 ∷ 29 ∷ 24 ∷ []) refl (λ _ _. lands-new ! refl (tt, tt) $
-      move ! (29 ∷ 23 ∷ 31 ∷ []) $ backs ! tt R (κs .1 .1 .1 .0) (qs .1 .1 .1 .0) (to x₃ ys) (length ys) refl room₃ ν δ
+      move ! (31 ∷ 27 ∷ []) $ lends ! tt R (κs .1 .1 .1 .0) (qs .1 .1 .1 .0) (to x₃ ys) (length ys) refl
+      (λ ν δ. lowers ! 3 24 $
+      asks ! 𝓣 wait-all-shape (wait-all.clauses 𝓤 H A mem run) known-wait-all (ν ∷ [], tt) (fullShare, tt) tt
+      (under x₃ δ ys, (countOf im, tt)) (val x₃ ∷ [], (vint w64 (countOf im) ∷ [], tt)) tt (c-is, tt) (id⊢ 𝓤 _)
+      (λ r zs. zs .0 ≡ us) (λ r zs. id⊢ 𝓤 _) tt (us, (tt, tt))
+      (λ r zs p. (refl, ap (λ (z : List LineState). (z, (tt, tt))) p))
+      (also ! refl (also ! refl (no-more !))) (24 ∷ 25 ∷ []) refl (λ _ _. lands-new ! refl (tt, tt) $
+      move ! (31 ∷ 24 ∷ 32 ∷ []) $ backs ! tt R (κs .1 .1 .1 .0) (qs .1 .1 .1 .0) (to x₃ ys) (length ys) refl room₃ ν δ
       us $
-      move ! (29 ∷ 25 ∷ 26 ∷ 1 ∷ 30 ∷ 27 ∷ 28 ∷ 0 ∷ []) $ lowers ! 8 23 $
+      move ! (26 ∷ 27 ∷ 28 ∷ 1 ∷ 29 ∷ 30 ∷ 31 ∷ 0 ∷ []) $ lowers ! 8 24 $
       -- `exchange`: the codes, the trace and the lines are lent to it
       again ! refl refl refl refl tt (refl, refl, refl) tt (room₁ .0) $
       again ! refl refl refl refl tt (refl, refl, refl) tt (room₂ .0) $
       again ! refl refl refl refl tt (refl, refl, refl) tt (room₃ .0) $
-      move ! (28 ∷ 24 ∷ []) $ lends ! tt u8 (κs .1 .0) (qs .1 .0) (to x₁ codes) (length codes) refl (λ α₁ β₁.
-      move ! (30 ∷ 27 ∷ []) $ lends ! tt u8 (κs .1 .1 .0) (qs .1 .1 .0) (to x₂ trace) (length trace) refl (λ α₂ β₂.
-      move ! (32 ∷ 30 ∷ []) $ lends ! tt R (κs .1 .1 .1 .0) (qs .1 .1 .1 .0) (to x₃ us) (length ys) same
-      (λ α₃ β₃. lowers ! 9 23 $
+      move ! (29 ∷ 25 ∷ []) $ lends ! tt u8 (κs .1 .0) (qs .1 .0) (to x₁ codes) (length codes) refl (λ α₁ β₁.
+      move ! (31 ∷ 28 ∷ []) $ lends ! tt u8 (κs .1 .1 .0) (qs .1 .1 .0) (to x₂ trace) (length trace) refl (λ α₂ β₂.
+      move ! (33 ∷ 31 ∷ []) $ lends ! tt R (κs .1 .1 .1 .0) (qs .1 .1 .1 .0) (to x₃ us) (length ys) same
+      (λ α₃ β₃. lowers ! 9 24 $
       asks-last ! 𝓣 exchange-shape (exchange.clauses 𝓤 H A mem run) known-exchange
       (κs .0, (α₁ ∷ [], (α₂ ∷ [], (α₃ ∷ [], tt)))) (qs .0, (fullShare, (fullShare, (fullShare, tt)))) tt
       (x, (under x₁ β₁ codes, (under x₂ β₂ trace, (under x₃ β₃ us, tt))))
@@ -215,21 +224,21 @@ module _ {M : Type 1} (𝓤 : URA M) (H : Heap 𝓤) (A : Atoms 𝓤) (W : Given
       (factI 𝓤 _ (emp 𝓤) ready′) (λ r zs. (r ≡ n) × (zs .1 .0 ≡ cs⁺) × (zs .1 .1 .0 ≡ tr⁺) × (zs .1 .1 .1 .0 ≡ ls⁺))
       (λ r zs. id⊢ 𝓤 _)
       n (tt, (cs⁺, (tr⁺, (ls⁺, tt)))) (λ r zs p. (p .0, each (p .1) (p .2) (p .3)))
-      (also ! refl (also ! refl (also ! refl (also ! refl (no-more !))))) (32 ∷ 29 ∷ 26 ∷ 23 ∷ 33 ∷ 30 ∷ 27 ∷ 24 ∷ [])
+      (also ! refl (also ! refl (also ! refl (also ! refl (no-more !))))) (33 ∷ 30 ∷ 27 ∷ 24 ∷ 34 ∷ 31 ∷ 28 ∷ 25 ∷ [])
       refl (λ _ _.
-      move ! (27 ∷ 25 ∷ 31 ∷ []) $ backs ! tt u8 (κs .1 .0) (qs .1 .0) (to x₁ codes) (length codes) refl room₁ α₁ β₁
+      move ! (28 ∷ 26 ∷ 32 ∷ []) $ backs ! tt u8 (κs .1 .0) (qs .1 .0) (to x₁ codes) (length codes) refl room₁ α₁ β₁
       cs⁺ $
-      move ! (28 ∷ 26 ∷ 31 ∷ []) $ backs ! tt u8 (κs .1 .1 .0) (qs .1 .1 .0) (to x₂ trace) (length trace) refl room₂ α₂
+      move ! (29 ∷ 27 ∷ 32 ∷ []) $ backs ! tt u8 (κs .1 .1 .0) (qs .1 .1 .0) (to x₂ trace) (length trace) refl room₂ α₂
       β₂ tr⁺ $
-      move ! (29 ∷ 27 ∷ 31 ∷ []) $ backs ! tt R (κs .1 .1 .1 .0) (qs .1 .1 .1 .0) (to x₃ us) (length ys) same room₃ α₃
+      move ! (30 ∷ 28 ∷ 32 ∷ []) $ backs ! tt R (κs .1 .1 .1 .0) (qs .1 .1 .1 .0) (to x₃ us) (length ys) same room₃ α₃
       β₃ ls⁺ $
-      move ! (29 ∷ 5 ∷ 3 ∷ 1 ∷ 30 ∷ 4 ∷ 2 ∷ 0 ∷ []) $ lowers ! 8 23 $
+      move ! (30 ∷ 5 ∷ 3 ∷ 1 ∷ 31 ∷ 4 ∷ 2 ∷ 0 ∷ []) $ lowers ! 8 24 $
       ends-renew ! refl (tt, record { fits = n-is .1 }) $
-      forget ! 11 refl $ forget ! 12 refl $ forget ! 13 refl $ forget ! 14 refl $ forget ! 15 refl $ forget ! 16 refl $
-      forget ! 17 refl $ forget ! 18 refl $ forget ! 19 refl $ on _ (
+      forget ! 7 refl $ forget ! 12 refl $ forget ! 13 refl $ forget ! 14 refl $ forget ! 15 refl $ forget ! 16 refl $ forget ! 17 refl $
+      forget ! 18 refl $ forget ! 19 refl $ forget ! 20 refl $ on _ (
       tallies room₂ bs n cs⁺ tr⁺ ls⁺ e-is n-is (subst (λ (m : ℕ). n ≤ m) (sym len₂) n-fits)
       (shown im codes trace ys none)
-      (λ z. claim im codes trace ys (told .1) z) len₁ len₂ (len₃ ∙ same)))))))))
+      (λ z. claim im codes trace ys (told .1) z) len₁ len₂ (len₃ ∙ same))))))))))
       -- it is refused
       (λ Q on failed. skips ! $ on _ (
       tallies room₂ bs 0 codes trace ys e-is (refl, lit< tt) (omega arith) (refused im codes trace ys failed)
@@ -242,6 +251,8 @@ search-spec 𝓤 H 𝓜 𝓖 𝓡 =
     𝓜 𝓡 code.env #search·search code.function (code.unfolded 𝓤 H 𝓜 𝓡) (λ κs a g. factI 𝓤 (Unit {0}) (emp 𝓤) tt)
     (λ κs qs bounds a g. walk 𝓤 H (𝓖 .A) (givenOf 𝓤 H 𝓜 𝓖) (𝓜 .mem) (𝓡 .run) (tablesOf 𝓤 H 𝓜 (tables 𝓤 H 𝓜 𝓡 code.env))
     (cited 𝓤 H _ 𝓜 𝓡 code.env #search·refusal refusal-def.routine code.calls-search·refusal (refusal-thm.met 𝓤 H 𝓜 𝓖 𝓡))
+    (cited 𝓤 H _ 𝓜 𝓡 code.env #bus·device-count device-count-def.routine code.calls-bus·device-count
+    (device-count-thm.met 𝓤 H 𝓜 𝓖 𝓡))
     (cited 𝓤 H _ 𝓜 𝓡 code.env #bus·wait-all wait-all-def.routine code.calls-bus·wait-all (wait-all-thm.met 𝓤 H 𝓜 𝓖 𝓡))
     (cited 𝓤 H _ 𝓜 𝓡 code.env #search·exchange exchange-def.routine code.calls-search·exchange
     (exchange-thm.met 𝓤 H 𝓜 𝓖 𝓡))
