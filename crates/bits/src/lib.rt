@@ -78,11 +78,7 @@ pub fn put_bit(s: &mut [u8], i: usize, level: bool)
 pub fn shift_in(register: u8, level: bool) -> u8
     ensures { λ r. ⌜ r ≡ shiftIn register level ⌝ }
 {
-    if level {
-        register / 2 + 128
-    } else {
-        register / 2
-    }
+    register / 2 + 128 * (level as u8)
 }
 
 // The CRC register after one bit more.
