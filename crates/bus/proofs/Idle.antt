@@ -149,6 +149,24 @@ module _ (image : List ℕ) (i : ℕ) (state : LineState) where
       let more : 2 < suc (suc (suc b)) = omega arith in
       pulse-turn (suc (suc (suc b))) true more .1 ∙ sym (pulse-turn (suc (suc (suc b))) level more .1)
 
+-- ---- a device that waits is not stored again
+
+set-same : (lines : List LineState) (i : ℕ) → set lines i (lineAt lines i) ≡ lines
+set-same [] i = refl
+set-same (state ∷ lines) zero = refl
+set-same (state ∷ lines) (suc i) = ap (λ (l : List LineState). state ∷ l) (set-same lines i)
+
+pub idle-line : (image : List ℕ) (i : ℕ) (level : Bool) (lines : List LineState) → waits (lineAt lines i) ≡ true
+    → set lines i (turnState image i (lineAt lines i) 1 level) ≡ lines
+unfolding turnState idleIn
+idle-line image i level lines idle = rw idle (set-same lines i)
+
+pub idle-turn : (level : Bool) (i : ℕ) (s : BusState) → waits (lineAt (s .lines) i) ≡ true → turnAt 1 level i s ≡ s
+unfolding turnAt turnImage idleIn
+idle-turn level i s idle =
+    ap (λ (l : List LineState). busState (turnImage (s .image) i (lineAt (s .lines) i) 1 level) l) (idle-line (s .image) i level (s .lines) idle)
+    ∙ rw idle
+
 -- ---- the same of all devices
 
 module _ (v w : ℕ) (l k : Bool)

@@ -25,6 +25,9 @@ level-of-shape = record {
   gives = truth;
 }
 
+abbrev pub waits-shape : Shape
+waits-shape = record { lifetimes = 0; outlives = []; kinds = dataK line ∷ []; gives = truth }
+
 abbrev pub device-count-shape : Shape
 device-count-shape = record {
   lifetimes = 1;

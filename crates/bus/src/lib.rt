@@ -306,8 +306,10 @@ fn slot_all(image: &mut [u8], lines: &mut [LineState], n: usize, level: bool)
     let mut i: usize = 0;
     while i < n {
         let state = lines[i];
-        let next = slot(image, i, state, level);
-        lines[i] = next;
+        if !state.waits() {
+            let next = slot(image, i, state, level);
+            lines[i] = next;
+        }
         i = i + 1;
     }
 }
@@ -346,8 +348,10 @@ fn read_slot_all(image: &[u8], lines: &mut [LineState], n: usize, level: bool)
     let mut i: usize = 0;
     while i < n {
         let state = lines[i];
-        let next = read_slot(image, i, state, level);
-        lines[i] = next;
+        if !state.waits() {
+            let next = read_slot(image, i, state, level);
+            lines[i] = next;
+        }
         i = i + 1;
     }
 }
