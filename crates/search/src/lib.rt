@@ -23,7 +23,7 @@ ghost use Rattle.bits.specs.Bit.{levelByte};
 ghost use Rattle.bus.specs.Run.{statesOf};
 ghost use Rattle.discovery.specs.Search.{searchOf};
 ghost use Rattle.discovery.specs.Searched.{Searched, eventsFor};
-ghost use Rattle.discovery.specs.Words.{Bytes, isReset, slotNext, resetsIn, slotsIn, passesIn};
+ghost use Rattle.discovery.specs.Words.{Bytes, isReset, isSlot, resetsIn, slotsIn, passesIn};
 ghost use Rattle.search.specs.Refusal.{noSearchRoom, searchRefusal};
 ghost use Rattle.search.specs.Found.{foundIn, SearchLeaves, searchedOf};
 ghost use Rattle.search.specs.Exchange.{hasEvent, eventIn, Ready};
@@ -156,26 +156,21 @@ fn slots_in(trace: &[u8]) -> u64
 }
 
 // A reset with a slot right after it.
-fn begins_pass(trace: &[u8], i: usize) -> bool
-    requires { ⌜ i < length (now trace) ⌝ }
-    ensures { λ r. ⌜ r ≡ (isReset (getD (now (trace .entry)) i 0) && slotNext (drop (i + 1) (now (trace .entry)))) ⌝ }
+fn begins_pass(event: u8, after: u8) -> bool
+    ensures { λ r. ⌜ r ≡ (isReset event && isSlot after) ⌝ }
 {
-    if trace[i] != RESET {
-        return false;
-    }
-    if i + 1 < trace.len() {
-        return trace[i + 1] < RESET;
-    }
-    false
+    event == RESET && after < RESET
 }
 
+// The last event begins no pass, as none comes after it. Each turn reads two events whatever they are, so that the
+// compiler makes the loop one over vectors.
 fn passes_in(trace: &[u8]) -> u64
     ensures { λ r. ⌜ r ≡ passesIn (now (trace .entry)) ⌝ }
 {
     let mut count: u64 = 0;
     let mut i = 0;
-    while i < trace.len() {
-        count = count + one_if(begins_pass(trace, i));
+    while i + 1 < trace.len() {
+        count = count + one_if(begins_pass(trace[i], trace[i + 1]));
         i += 1;
     }
     count
