@@ -2,7 +2,7 @@
 -- sends in a slot has no part in a device's turn, and neither has the level of a reset or a program pulse. Assumes nothing.
 use Prim.Native.Nat.{ℕ, zero, suc, _+_, _-_, _<_, _≤_}
 use mathlib.Core.Path.{_≡_, refl, sym, ap, _∙_}
-use mathlib.Core.Bool.{Bool, true, false, cond, _&&_, true≢false}
+use mathlib.Core.Bool.{Bool, true, false, _&&_, true≢false}
 use mathlib.Core.List.{List, [], _∷_, _++_}
 use native.Mathlib.Omega.{arith}
 use lib.ListN.{length, set, take, drop, take-append-drop}
@@ -15,7 +15,7 @@ use Rattle.device.specs.Device.{lineState, waitingState, resetState, waits, res
 use Rattle.device.proofs.Range.{waits-waiting}
 use Rattle.device.proofs.Laws.{waiting-step, waiting-write, going-on-steps, going-on-writes}
 use Rattle.bus.specs.declared.Event.{Event}
-use Rattle.bus.specs.declared.Event.the-variants.{Slot, Reset, Pulse}
+use Rattle.bus.specs.declared.Event.the-variants.{Slot, Pulse}
 use Rattle.bus.specs.declared.Place.{Place}
 use Rattle.bus.specs.Bus.{Device, eventOf, nextState, nextBody}
 use Rattle.bus.specs.Loops.{stateAsItIs, bodyAsItIs, idleIn, placeIn, deviceAt, deviceIn, withBody, turnState, turnImage}

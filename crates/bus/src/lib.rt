@@ -1,7 +1,8 @@
 // All devices on the line: the level of an event, which every device is given, and the run of a trace.
 //
-// The image holds the devices' bodies, and a lent slice their line states. One device's part in an event is a function by value over the
-// image and its line state; the loops over all devices, over the trace, and the run above them only fetch, call and store.
+// The image holds the devices' bodies, and a lent slice their line states. One device's part in an event is a function
+// by value over the image and its line state; the loops over all devices, over the trace, and the run above them only
+// fetch, call and store.
 use device::LineState;
 use image::ACCEPTED;
 use kind::Kind;
@@ -51,8 +52,8 @@ fn event_of(byte: u8) -> Event
     }
 }
 
-// The place of device i, found from its entry: that costs a constant. A device that the image does not have, or has no room for, has an
-// empty body and no kind.
+// The place of device i, found from its entry: that costs a constant. A device that the image does not have, or has no
+// room for, has an empty body and no kind.
 fn place_of(image: &[u8], i: usize) -> Place
     ensures { λ r. ⌜ r ≡ placeIn (now (image .entry)) i ⌝ }
 {
@@ -72,8 +73,8 @@ fn place_of(image: &[u8], i: usize) -> Place
     }
 }
 
-// How many of n devices are asked for the level of an event: all of them in a slot in which the master sends 1. Any other level does not
-// depend on what they send.
+// How many of n devices are asked for the level of an event: all of them in a slot in which the master sends 1. Any
+// other level does not depend on what they send.
 fn asked(byte: u8, n: usize) -> usize
     ensures { λ r. ⌜ r ≡ askedOf byte n ⌝ }
 {
@@ -98,9 +99,10 @@ fn level_of(byte: u8, n: usize, high: bool) -> bool
     }
 }
 
-// Device i's part in a slot at a level. Inside a transfer a slot only shifts the register, and a device that waits has no part in it: a body
-// is looked for only in the last slot of a transfer. The next line state is worked out before the body changes. A run's line states are in
-// range from the first event on (proofs/Ranges.antt), so that they are taken as they are.
+// Device i's part in a slot at a level. Inside a transfer a slot only shifts the register, and a device that waits has
+// no part in it: a body is looked for only in the last slot of a transfer. The next line state is worked out before the
+// body changes. A run's line states are in range from the first event on (proofs/Ranges.antt), so that they are taken
+// as they are.
 fn slot(image: &mut [u8], i: usize, state: LineState, level: bool) -> LineState
     ensures { λ r. ⌜ (r ≡ turnState (now (image .entry)) i state 1 level) × (now (image .exit) ≡ turnImage (now (image .entry)) i state 1 level) ⌝ }
 {
@@ -297,8 +299,8 @@ pub fn level(lines: &[LineState], n: usize, byte: u8) -> bool
     level_of(byte, served, high)
 }
 
-// Each of the first n devices, one after the other, in a slot at a level. No device's part depends on another's turn. Slots have a loop of
-// their own, as they are nearly all events, and each device's part in one is short.
+// Each of the first n devices, one after the other, in a slot at a level. No device's part depends on another's turn.
+// Slots have a loop of their own, as they are nearly all events, and each device's part in one is short.
 fn slot_all(image: &mut [u8], lines: &mut [LineState], n: usize, level: bool)
     requires { ⌜ n ≤ length (now lines) ⌝ }
     ensures { λ _. ⌜ busState (now (image .exit)) (now (lines .exit)) ≡ turns 1 level n (busState (now (image .entry)) (now (lines .entry))) ⌝ }
@@ -370,7 +372,8 @@ fn read_turn_all(image: &[u8], lines: &mut [LineState], n: usize, byte: u8)
     }
 }
 
-// The line states of the first n devices after an event at a level, of any image and any line states. The image is only read.
+// The line states of the first n devices after an event at a level, of any image and any line states. The image is only
+// read.
 pub fn step_all(image: &[u8], lines: &mut [LineState], n: usize, byte: u8, level: bool)
     ensures { λ _. ⌜ now (lines .exit) ≡ statesAfter (now (image .entry)) (now (lines .entry)) n byte level ⌝ }
 {

@@ -11,9 +11,9 @@ use Rattle.walks.proofs.Walk.{cited, Cell, void, has, Blocks, env, stand, quits
 use Rattle.walks.proofs.Walk.{finishes, proved, var, head, count, new, bump, whiles, val, points, lands-new, also}
 use Rattle.walks.proofs.Walk.{lands-renew, Looked, opens-shr, closes-shr, sees, in-row, elem}
 use types.Run.{true-lit}
-use mathlib.Core.Bool.{Bool, _&&_}
+use mathlib.Core.Bool.{Bool}
 use Rattle.device.specs.declared.LineState.{LineState}
-use Rattle.device.specs.Device.{waitingState, sendsAsIs}
+use Rattle.device.specs.Device.{waitingState}
 use Rattle.bus.specs.Bus.{eventOf}
 use Rattle.bus.specs.Loops.{fewerOf, askedOf, levelWhere, lineAt}
 use Rattle.bus.proofs.Laws.{fewer-second}

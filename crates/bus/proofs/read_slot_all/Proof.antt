@@ -10,9 +10,9 @@ use Rattle.walks.proofs.Walk.{_≡_, refl, sym, subst, ℕ, suc, _<_, _≤_, _+
 use Rattle.walks.proofs.Walk.{URA, fullShare, named, w64, vunit, vint, vbool, SProp, emp, id⊢, flft, Fun, factI}
 use Rattle.walks.proofs.Walk.{Lfts, Shares, givenOf, tables, tablesOf, Memory, Routine, Heap, Tables, Atoms, Given}
 use Rattle.walks.proofs.Walk.{Item, ‵, _$_, !, move, look, forget, stop, hop, from, lit, unit-lit, of-opd, no-more, bin}
-use Rattle.walks.proofs.Walk.{assigns, returns, Is, u8, u64, RefT, ShrSlice, Room, row, cited, Cell, void, has, Blocks}
+use Rattle.walks.proofs.Walk.{returns, Is, u8, u64, RefT, ShrSlice, Room, row, cited, Cell, void, has, Blocks}
 use Rattle.walks.proofs.Walk.{env, stand, quits, lowers, Walk, Met, enters, asks, finishes, proved, var, head, new}
-use Rattle.walks.proofs.Walk.{renew, bump, whiles, ptr, val, points, lands-new, Opened, opens-mut, closes-mut, also}
+use Rattle.walks.proofs.Walk.{bump, whiles, ptr, val, points, lands-new, Opened, opens-mut, closes-mut, also}
 use Rattle.walks.proofs.Walk.{sees, in-row, elem, onto-row}
 use Rattle.walks.proofs.Walk.{lands-renew, ifs, skips, assigns-last, Post, Sq, prop, post, next}
 use types.Run.{un}

@@ -20,7 +20,7 @@ use Rattle.device.specs.declared.LineState.{LineState}
 use Rattle.device.specs.Device.{waitingState}
 use Rattle.bus.specs.Refusal.{runRefusal}
 use Rattle.bus.specs.Run.{runOutcome, runOf}
-use Rattle.bus.specs.Loops.{filled, RunState, runState, events}
+use Rattle.bus.specs.Loops.{filled, RunState, runState}
 use Rattle.bus.proofs.Laws.{admitted, filled-length, events-image-length, events-answers-length}
 use Rattle.bus.proofs.Laws.{events-lines-length}
 use Rattle.bus.proofs.Lines.{R, mach, typed}

@@ -7,12 +7,12 @@
 -- All that it knows of `slot` is that it meets its contract.
 -- Assumes nothing. `Walk.antt` of `walks` says how a walk is written.
 use Rattle.walks.proofs.Walk.{_≡_, refl, sym, ap, subst, ℕ, suc, _<_, _≤_, _+_, _*_, _^_, arith, [], _∷_, List, length}
-use Rattle.walks.proofs.Walk.{lit<, URA, fullShare, named, w8, w64, vunit, vint, vbool, SProp, emp, id⊢, flft, Fun}
+use Rattle.walks.proofs.Walk.{lit<, URA, fullShare, named, w64, vunit, vint, vbool, SProp, emp, id⊢, flft, Fun}
 use Rattle.walks.proofs.Walk.{factI, Lfts, Shares, givenOf, tables, tablesOf, Memory, Routine, Heap, Tables, Atoms}
 use Rattle.walks.proofs.Walk.{Given, Item, ‵, _$_, !, move, look, forget, stop, hop, from, lit, unit-lit, of-opd}
-use Rattle.walks.proofs.Walk.{no-more, bin, assigns, returns, Is, u8, u64, RefT, MutSlice, Room, row, cited, Cell, void}
+use Rattle.walks.proofs.Walk.{no-more, bin, returns, Is, u8, u64, RefT, MutSlice, Room, row, cited, Cell, void}
 use Rattle.walks.proofs.Walk.{has, Blocks, env, stand, quits, lowers, Walk, Met, enters, asks, finishes, proved, var}
-use Rattle.walks.proofs.Walk.{head, new, renew, bump, whiles, to, under, ptr, val, points, again, lands-new, Opened}
+use Rattle.walks.proofs.Walk.{head, new, bump, whiles, to, under, ptr, val, points, again, lands-new, Opened}
 use Rattle.walks.proofs.Walk.{opens-mut, closes-mut, also, lends, backs, sees, in-row, elem, onto-row}
 use Rattle.walks.proofs.Walk.{lands-renew, ifs, skips, assigns-last, Post, Sq, prop, post, next}
 use types.Run.{un}

@@ -4,7 +4,7 @@
 -- event have no part in a turn (`states-slot`, `states-other` of `Idle.antt`), so each leaves what the contract says.
 -- All that it knows of its callees is that each meets its contract.
 -- Assumes nothing. `Walk.antt` of `walks` says how a walk is written.
-use Rattle.walks.proofs.Walk.{Bool, true, _≡_, refl, ap, _∙_, ℕ, _<_, _≤_, _^_, arith, [], _∷_, List, length, URA}
+use Rattle.walks.proofs.Walk.{Bool, true, _≡_, refl, ap, _∙_, ℕ, _<_, _≤_, arith, [], _∷_, List, length, URA}
 use Rattle.walks.proofs.Walk.{fullShare, named, w8, w64, vunit, vint, vbool, SProp, emp, id⊢, flft, Fun, factI, Lfts}
 use Rattle.walks.proofs.Walk.{Shares, givenOf, tables, tablesOf, Memory, Routine, Heap, Tables, Atoms, Given, Item, ‵, _$_}
 use Rattle.walks.proofs.Walk.{Sq, runs, atRet, !, move, look, lit, unit-lit, of-opd, no-more, bin, returns, Is, u8, u64}
