@@ -3,14 +3,8 @@ use borrow.Author.Needs.{needs}
 use Rattle.bus.proofs.device_count.Statement.{statement}
 use Rattle.bus.proofs.device_count.Tie as tie
 
-count-requires : tie.Need-count-requires
-count-requires c κs = search needs
-
-wide-requires : tie.Need-wide-requires
-wide-requires c κs = search needs
-
 returns : tie.Need-returns
 returns c = c .wide .ensures ∙ c .before .count .ensures
 
 pub device-count-spec : {M : Type 1} → statement M
-device-count-spec = tie.close (tie.spec count-requires wide-requires returns)
+device-count-spec = tie.close (tie.spec (λ c κs. search needs) (λ c κs. search needs) returns)

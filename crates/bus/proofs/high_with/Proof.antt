@@ -3,12 +3,9 @@ use borrow.Author.Needs.{needs}
 use Rattle.bus.proofs.high_with.Statement.{statement}
 use Rattle.bus.proofs.high_with.Tie as tie
 
-sends-as-is-requires : tie.Need-sends-as-is-requires
-sends-as-is-requires c κs = search needs
-
 returns : tie.Need-returns
 unfolding sendsAsIs
 returns c = simp (c .sends-as-is .ensures)
 
 pub high-with-spec : {M : Type 1} → statement M
-high-with-spec = tie.close (tie.spec sends-as-is-requires returns)
+high-with-spec = tie.close (tie.spec (λ c κs. search needs) returns)

@@ -8,12 +8,9 @@ returns : tie.Need-returns
 unfolding noRunRoom
 returns c = simp (lt-ltb _ _ (c .if1 .taken))
 
-device-count-requires : tie.Need-device-count-requires
-device-count-requires c κs = search needs
-
 returns-2 : tie.Need-returns-2
 unfolding noRunRoom
 returns-2 c = simp (c .device-count .ensures, le-ltb _ _ (c .before .if1 .left))
 
 pub lacks-room-spec : {M : Type 1} → statement M
-lacks-room-spec = tie.close (tie.spec returns device-count-requires returns-2)
+lacks-room-spec = tie.close (tie.spec returns (λ c κs. search needs) returns-2)

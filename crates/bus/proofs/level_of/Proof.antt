@@ -5,18 +5,6 @@ use borrow.Author.Needs.{needs}
 use Rattle.bus.proofs.level_of.Statement.{statement}
 use Rattle.bus.proofs.level_of.Tie as tie
 
-event-of-requires : tie.Need-event-of-requires
-event-of-requires c κs = search needs
-
-enum-known-sent : tie.Need-enum-known-sent
-enum-known-sent c = search needs
-
-enum-told : tie.Need-enum-told
-enum-told c = search needs
-
-enum-told-2 : tie.Need-enum-told-2
-enum-told-2 c = search needs
-
 returns : tie.Need-returns
 unfolding levelWhere
 returns c = rw (sym (c .before .before .before .event-of .ensures) ∙ c .before .sent .given .1)
@@ -32,4 +20,4 @@ returns-3 c = rw (sym (c .before .before .event-of .ensures) ∙ c .enum-told2 .
 pub level-of-spec : {M : Type 1} → statement M
 level-of-spec =
     tie.close
-    (tie.spec event-of-requires enum-known-sent enum-told enum-told-2 returns returns-2 returns-3)
+    (tie.spec (λ c κs. search needs) (λ c. search needs) (λ c. search needs) (λ c. search needs) returns returns-2 returns-3)

@@ -8,27 +8,15 @@ use Rattle.bus.proofs.Laws.{inside-of}
 use Rattle.bus.proofs.read_slot.Statement.{statement}
 use Rattle.bus.proofs.read_slot.Tie as tie
 
-goes-on-requires : tie.Need-goes-on-requires
-goes-on-requires c κs = search needs
-
-shifted-requires : tie.Need-shifted-requires
-shifted-requires c κs = search needs
-
 returns : tie.Need-returns
 returns c =
     let a = c .before .before .before .before .args in
     let inside = sym (c .before .before .goes-on .ensures) ∙ c .before .if1 .taken in
     c .shifted .ensures ∙ inside-state (a .state) inside (a .image .now) (a .i) (a .level)
 
-waits-requires : tie.Need-waits-requires
-waits-requires c κs = search needs
-
 returns-2 : tie.Need-returns-2
 unfolding turnState idleIn
 returns-2 c = rw (sym (c .before .waits .ensures) ∙ c .if2 .taken)
-
-place-of-requires : tie.Need-place-of-requires
-place-of-requires c κs = search needs
 
 sub-step-as-is : tie.Need-sub-step-as-is
 sub-step-as-is c =
@@ -45,9 +33,6 @@ part-step-as-is-end c =
     let inside = inside-of _ _ _ (c .place-of .ensures) in
     omega arith
 
-step-as-is-requires : tie.Need-step-as-is-requires
-step-as-is-requires c κs = search needs
-
 returns-3 : tie.Need-returns-3
 unfolding turnState idleIn eventOf stateAsItIs deviceIn deviceAt
 returns-3 c =
@@ -58,14 +43,14 @@ pub read-slot-spec : {M : Type 1} → statement M
 read-slot-spec =
     tie.close
     (tie.spec
-    goes-on-requires
-    shifted-requires
+    (λ c κs. search needs)
+    (λ c κs. search needs)
     returns
-    waits-requires
+    (λ c κs. search needs)
     returns-2
-    place-of-requires
+    (λ c κs. search needs)
     sub-step-as-is
     part-step-as-is-start
     part-step-as-is-end
-    step-as-is-requires
+    (λ c κs. search needs)
     returns-3)

@@ -8,16 +8,10 @@ use Rattle.bus.proofs.Laws.{inside-of}
 use Rattle.bus.proofs.read_turn.Statement.{statement}
 use Rattle.bus.proofs.read_turn.Tie as tie
 
-at-reset-requires : tie.Need-at-reset-requires
-at-reset-requires c κs = search needs
-
 returns : tie.Need-returns
 returns c =
     let a = c .before .before .before .args in
     rw (c .before .if1 .taken, reset-turn (a .image .now) (a .i) (a .state) true .0) (c .at-reset .ensures)
-
-place-of-requires : tie.Need-place-of-requires
-place-of-requires c κs = search needs
 
 sub-pulsed-as-is : tie.Need-sub-pulsed-as-is
 sub-pulsed-as-is c =
@@ -34,9 +28,6 @@ part-pulsed-as-is-end c =
     let inside = inside-of _ _ _ (c .place-of .ensures) in
     omega arith
 
-pulsed-as-is-requires : tie.Need-pulsed-as-is-requires
-pulsed-as-is-requires c κs = search needs
-
 returns-2 : tie.Need-returns-2
 unfolding deviceIn deviceAt
 returns-2 c =
@@ -49,11 +40,11 @@ pub read-turn-spec : {M : Type 1} → statement M
 read-turn-spec =
     tie.close
     (tie.spec
-    at-reset-requires
+    (λ c κs. search needs)
     returns
-    place-of-requires
+    (λ c κs. search needs)
     sub-pulsed-as-is
     part-pulsed-as-is-start
     part-pulsed-as-is-end
-    pulsed-as-is-requires
+    (λ c κs. search needs)
     returns-2)

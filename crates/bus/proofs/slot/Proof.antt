@@ -10,12 +10,6 @@ use Rattle.bus.proofs.Laws.{inside-of}
 use Rattle.bus.proofs.slot.Statement.{statement}
 use Rattle.bus.proofs.slot.Tie as tie
 
-goes-on-requires : tie.Need-goes-on-requires
-goes-on-requires c κs = search needs
-
-shifted-requires : tie.Need-shifted-requires
-shifted-requires c κs = search needs
-
 returns : tie.Need-returns
 returns c =
     let a = c .before .before .before .before .args in
@@ -24,17 +18,11 @@ returns c =
       inside-image (a .state) inside (a .image .now) (a .i) (a .level),
     )
 
-waits-requires : tie.Need-waits-requires
-waits-requires c κs = search needs
-
 returns-2 : tie.Need-returns-2
 unfolding turnState turnImage idleIn
 returns-2 c =
     let idle = sym (c .before .waits .ensures) ∙ c .if2 .taken in
     (rw idle, rw idle)
-
-place-of-requires : tie.Need-place-of-requires
-place-of-requires c κs = search needs
 
 sub-step-as-is : tie.Need-sub-step-as-is
 sub-step-as-is c =
@@ -51,9 +39,6 @@ part-step-as-is-end c =
     let inside = inside-of _ _ _ (c .before .place-of .ensures) in
     omega arith
 
-step-as-is-requires : tie.Need-step-as-is-requires
-step-as-is-requires c κs = search needs
-
 sub-write-as-is : tie.Need-sub-write-as-is
 sub-write-as-is c =
     let inside = inside-of _ _ _ (c .before .before .before .place-of .ensures) in
@@ -68,12 +53,6 @@ part-write-as-is-end : tie.Need-part-write-as-is-end
 part-write-as-is-end c =
     let inside = inside-of _ _ _ (c .before .before .before .place-of .ensures) in
     omega arith
-
-write-as-is-requires : tie.Need-write-as-is-requires
-write-as-is-requires c κs = search needs
-
-same-length : tie.Need-same-length
-same-length c = search needs
 
 returns-3 : tie.Need-returns-3
 unfolding turnState turnImage idleIn eventOf stateAsItIs bodyAsItIs deviceIn deviceAt withBody
@@ -92,19 +71,19 @@ pub slot-spec : {M : Type 1} → statement M
 slot-spec =
     tie.close
     (tie.spec
-    goes-on-requires
-    shifted-requires
+    (λ c κs. search needs)
+    (λ c κs. search needs)
     returns
-    waits-requires
+    (λ c κs. search needs)
     returns-2
-    place-of-requires
+    (λ c κs. search needs)
     sub-step-as-is
     part-step-as-is-start
     part-step-as-is-end
-    step-as-is-requires
+    (λ c κs. search needs)
     sub-write-as-is
     part-write-as-is-start
     part-write-as-is-end
-    write-as-is-requires
-    same-length
+    (λ c κs. search needs)
+    (λ c. search needs)
     returns-3)

@@ -10,9 +10,6 @@ use Rattle.bus.proofs.Laws.{inside-of}
 use Rattle.bus.proofs.turn.Statement.{statement}
 use Rattle.bus.proofs.turn.Tie as tie
 
-place-of-requires : tie.Need-place-of-requires
-place-of-requires c κs = search needs
-
 sub-reset-as-is : tie.Need-sub-reset-as-is
 sub-reset-as-is c =
     let inside = inside-of _ _ _ (c .before .place-of .ensures) in
@@ -27,12 +24,6 @@ part-reset-as-is-end : tie.Need-part-reset-as-is-end
 part-reset-as-is-end c =
     let inside = inside-of _ _ _ (c .before .place-of .ensures) in
     omega arith
-
-reset-as-is-requires : tie.Need-reset-as-is-requires
-reset-as-is-requires c κs = search needs
-
-same-length : tie.Need-same-length
-same-length c = search needs
 
 returns : tie.Need-returns
 unfolding deviceIn deviceAt withBody
@@ -62,12 +53,6 @@ part-pulse-as-is-end c =
     let inside = inside-of _ _ _ (c .before .place-of .ensures) in
     omega arith
 
-pulse-as-is-requires : tie.Need-pulse-as-is-requires
-pulse-as-is-requires c κs = search needs
-
-same-length-2 : tie.Need-same-length-2
-same-length-2 c = search needs
-
 returns-2 : tie.Need-returns-2
 unfolding deviceIn deviceAt withBody
 returns-2 c =
@@ -85,16 +70,16 @@ pub turn-spec : {M : Type 1} → statement M
 turn-spec =
     tie.close
     (tie.spec
-    place-of-requires
+    (λ c κs. search needs)
     sub-reset-as-is
     part-reset-as-is-start
     part-reset-as-is-end
-    reset-as-is-requires
-    same-length
+    (λ c κs. search needs)
+    (λ c. search needs)
     returns
     sub-pulse-as-is
     part-pulse-as-is-start
     part-pulse-as-is-end
-    pulse-as-is-requires
-    same-length-2
+    (λ c κs. search needs)
+    (λ c. search needs)
     returns-2)

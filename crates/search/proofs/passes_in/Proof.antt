@@ -18,32 +18,8 @@ abbrev μ-loop : tie.MeasureT-loop
 loop-holds : tie.Need-loop-holds Inv-loop μ-loop
 loop-holds c = (omega arith, omega arith, omega arith)
 
-add-loop : tie.Need-add-loop Inv-loop μ-loop
-add-loop c = search needs
-
-shared-slice-read-begins-pass : tie.Need-shared-slice-read-begins-pass Inv-loop μ-loop
-shared-slice-read-begins-pass c = search needs
-
-add-begins-pass : tie.Need-add-begins-pass Inv-loop μ-loop
-add-begins-pass c = search needs
-
-shared-slice-read-begins-pass-2 : tie.Need-shared-slice-read-begins-pass-2 Inv-loop μ-loop
-shared-slice-read-begins-pass-2 c = search needs
-
-begins-pass-requires : tie.Need-begins-pass-requires Inv-loop μ-loop
-begins-pass-requires c κs = search needs
-
-one-if-requires : tie.Need-one-if-requires Inv-loop μ-loop
-one-if-requires c κs = search needs
-
 add-count : tie.Need-add-count Inv-loop μ-loop
 add-count c = let few = c .one-if .ensures .1 in let below = c .before .before .before .before .before .loop .inv .1 in search needs
-
-add-i : tie.Need-add-i Inv-loop μ-loop
-add-i c = search needs
-
-loop-less : tie.Need-loop-less Inv-loop μ-loop
-loop-less c = search needs
 
 loop-again : tie.Need-loop-again Inv-loop μ-loop
 loop-again c =
@@ -69,14 +45,14 @@ passes-in-spec =
     Inv-loop
     μ-loop
     loop-holds
-    add-loop
-    shared-slice-read-begins-pass
-    add-begins-pass
-    shared-slice-read-begins-pass-2
-    begins-pass-requires
-    one-if-requires
+    (λ c. search needs)
+    (λ c. search needs)
+    (λ c. search needs)
+    (λ c. search needs)
+    (λ c κs. search needs)
+    (λ c κs. search needs)
     add-count
-    add-i
-    loop-less
+    (λ c. search needs)
+    (λ c. search needs)
     loop-again
     returns)

@@ -4,21 +4,6 @@ use borrow.Author.Needs.{needs}
 use Rattle.search.proofs.stepped.Statement.{statement}
 use Rattle.search.proofs.stepped.Tie as tie
 
-passes-requires : tie.Need-passes-requires
-passes-requires c κs = search needs
-
-step-requires : tie.Need-step-requires
-step-requires c κs = search needs
-
-next-requires : tie.Need-next-requires
-next-requires c κs = search needs
-
-keep-code-requires : tie.Need-keep-code-requires
-keep-code-requires c κs = search needs
-
-same-length : tie.Need-same-length
-same-length c = search needs
-
 returns : tie.Need-returns
 unfolding codeCompleted
 returns c =
@@ -33,4 +18,4 @@ returns c =
 pub stepped-spec : {M : Type 1} → statement M
 stepped-spec =
     tie.close
-    (tie.spec passes-requires step-requires next-requires keep-code-requires same-length returns)
+    (tie.spec (λ c κs. search needs) (λ c κs. search needs) (λ c κs. search needs) (λ c κs. search needs) (λ c. search needs) returns)
