@@ -1,13 +1,12 @@
 -- Laws of bits and of the CRC that proofs cite. Assumes nothing.
 use Prim.Native.Nat.{ℕ, zero, suc, _+_, _-_, _*_, _/_, _%_, _^_, _<_, _≤_}
-use mathlib.Core.Path.{_≡_, refl, sym, ap, subst, _∙_}
+use mathlib.Core.Path.{_≡_, refl, _∙_}
 use mathlib.Core.Bool.{Bool, true, false, cond, Bool·beq}
 use mathlib.Core.List.{List, [], _∷_, _++_}
 use native.Mathlib.Omega.{arith}
 use native.Mathlib.Nat.{not-suc-le-zero, div-eq-of-lt}
 use native.Mathlib.Numerals.{sub-one, add-one}
 use lib.ListN.{length, length-append}
-use lib.Dec.{eqb}
 use lib.Bits.{bitXor, xor-lt}
 use lib.Pow.{pow-mono, shr-lt}
 use Rattle.bits.specs.Bit.{bitOf}
@@ -45,18 +44,19 @@ clear-room b h =
     (λ e. omega arith) (λ e. omega arith) (λ e. omega arith) (λ e. omega arith)
     (λ e. omega arith) (λ e. omega arith) (λ e. omega arith) (λ e. omega arith)
 
--- a byte has no bit past 7
-pub no-bit : (b i : ℕ) → b < 256 → 8 ≤ i → bitOf b i ≡ false
+-- a number of so many bits has none past them
+pub no-bit : (width b i : ℕ) → b < 2 ^ width → width ≤ i → bitOf b i ≡ false
 unfolding bitOf
-no-bit b i h k =
-    let big : 2 ^ 8 ≤ 2 ^ i = pow-mono k in
+no-bit width b i h k =
+    let big : 2 ^ width ≤ 2 ^ i = pow-mono k in
     let none : b / 2 ^ i ≡ 0 = div-eq-of-lt (omega arith) in
     rw none
 
 -- ---- the CRC
 
 -- one shift of the register takes one of those that are left
-pub crc-next : (n register byte : ℕ) → 0 < n → crcBits (n - 1) (crcBit register (bitOf byte 0)) (byte / 2) ≡ crcBits n register byte
+pub crc-next : (n register byte : ℕ) → 0 < n
+    → crcBits (n - 1) (crcBit register (bitOf byte 0)) (byte / 2) ≡ crcBits n register byte
 unfolding crcBits
 crc-next zero register byte h = absurd (not-suc-le-zero h)
 crc-next (suc n) register byte h = rw sub-one
@@ -79,7 +79,8 @@ crc-bit-fits register level h = choose (Bool·beq (bitOf register 0) level)
 crc-bits-fit : (n register byte : ℕ) → register < 256 → crcBits n register byte < 256
 unfolding crcBits
 crc-bits-fit zero register byte h = h
-crc-bits-fit (suc n) register byte h = crc-bits-fit n (crcBit register (bitOf byte 0)) (byte / 2) (crc-bit-fits register (bitOf byte 0) h)
+crc-bits-fit (suc n) register byte h =
+    crc-bits-fit n (crcBit register (bitOf byte 0)) (byte / 2) (crc-bit-fits register (bitOf byte 0) h)
 
 pub crc-fits : (register : ℕ) (s : List ℕ) → register < 256 → crcFrom register s < 256
 unfolding crcFrom crcByte

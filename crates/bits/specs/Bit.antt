@@ -1,5 +1,5 @@
--- Document 01, 'ROM stage' and 'Registration code and CRC': bits go least significant first. A level is a Bool, false is 0; a byte is a number
--- below 256. Past the end of bytes every bit is 0, and one put there changes nothing.
+-- Document 01, 'ROM stage' and 'Registration code and CRC': bits go least significant first. A level is a Bool, false
+-- is 0; a byte is a number below 256. Past the end of bytes every bit is 0, and one put there changes nothing.
 use Prim.Native.Nat.{ℕ, _+_, _-_, _/_, _%_, _^_}
 use mathlib.Core.Bool.{Bool, true, false, cond}
 use mathlib.Core.List.{List}
@@ -37,7 +37,7 @@ withBit b i level = cond (leb 8 i) b (atLevel b i level)
 unfoldable pub putBit : List ℕ → ℕ → Bool → List ℕ
 putBit s i level = set s (byteOf i) (withBit (getD s (byteOf i) 0) (bitPlace i) level)
 
--- a register of so many bits, shifted down by one place, with a level at its top
-unfoldable pub shiftIn : ℕ → ℕ → Bool → ℕ
-shiftIn width value true = value / 2 + 2 ^ (width - 1)
-shiftIn width value false = value / 2
+-- a register of eight bits: each moves down by one place, and a level comes in at the top
+unfoldable pub shiftIn : ℕ → Bool → ℕ
+shiftIn register true = register / 2 + 128
+shiftIn register false = register / 2

@@ -1,4 +1,5 @@
--- Document 01, 'Registration code and CRC': X8 + X5 + X4 + 1, register zero at the start, bits shifted in least significant first.
+-- Document 01, 'Registration code and CRC': X8 + X5 + X4 + 1, register zero at the start, bits shifted in least
+-- significant first.
 use Prim.Native.Nat.{ℕ, zero, suc, _/_}
 use mathlib.Core.Bool.{Bool, cond, _&&_, Bool·beq}
 use mathlib.Core.List.{List, [], _∷_}
@@ -7,8 +8,9 @@ use lib.Bits.{bitXor}
 use lib.Dec.{eqb}
 use Rattle.bits.specs.Bit.{bitOf}
 
--- One shift of the generator. The bit that leaves the register and the bit that comes in are added modulo 2. The sum goes into the
--- first stage and is added behind the fourth and the fifth: the terms 1, X4 and X5. The last stage is bit 0, so these are bits 7, 3, 2: 8Ch.
+-- One shift of the generator. The bit that leaves the register and the bit that comes in are added modulo 2. The sum
+-- goes into the first stage and is added behind the fourth and the fifth: the terms 1, X4 and X5. The last stage is
+-- bit 0, so these are bits 7, 3, 2: 8Ch.
 unfoldable pub crcBit : ℕ → Bool → ℕ
 crcBit register level = cond (Bool·beq (bitOf register 0) level) (register / 2) (bitXor (register / 2) 0x8C)
 

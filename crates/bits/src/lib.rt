@@ -7,6 +7,13 @@ ghost use lib.ListN.{getD, set};
 ghost use Rattle.bits.specs.Bit.{bitOf, bitAt, withBit, putBit, shiftIn};
 ghost use Rattle.bits.specs.Crc.{crcBit, crcByte, crcFrom, registered};
 
+// A byte as a number of the machine's width.
+pub fn wide(byte: u8) -> usize
+    ensures { λ r. ⌜ r ≡ byte ⌝ }
+{
+    byte as usize
+}
+
 // Byte i of a slice.
 pub fn byte_at(s: &[u8], i: usize) -> u8
     ensures { λ r. ⌜ r ≡ getD (now (s .entry)) i 0 ⌝ }
@@ -67,18 +74,11 @@ pub fn put_bit(s: &mut [u8], i: usize, level: bool)
     put_byte(s, i / 8, with_bit(byte, (i % 8) as u8, level));
 }
 
-// A shift register of eight bits, filled from its top: after eight levels it holds the byte they spell.
-pub fn shift_in(value: u8, level: bool) -> u8
-    ensures { λ r. ⌜ r ≡ shiftIn 8 value level ⌝ }
+// A shift register of eight bits, filled from its top: after eight levels it holds the byte that they spell.
+pub fn shift_in(register: u8, level: bool) -> u8
+    ensures { λ r. ⌜ r ≡ shiftIn register level ⌝ }
 {
-    if level { value / 2 + 128 } else { value / 2 }
-}
-
-// The same of sixteen bits.
-pub fn shift_in_wide(value: u16, level: bool) -> u16
-    ensures { λ r. ⌜ r ≡ shiftIn 16 value level ⌝ }
-{
-    if level { value / 2 + 32768 } else { value / 2 }
+    register / 2 + 128 * (level as u8)
 }
 
 // The CRC register after one bit more.

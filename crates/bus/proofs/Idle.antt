@@ -1,39 +1,47 @@
--- A device that waits has no part in a slot: the level, its line state and the image stay. Assumes nothing.
+-- A device that waits has no part in a slot, and inside a transfer a slot only shifts a device's register: the image stays. What the master
+-- sends in a slot has no part in a device's turn, and neither has the level of a reset or a program pulse. Assumes nothing.
 use Prim.Native.Nat.{ℕ, zero, suc, _+_, _-_, _<_, _≤_}
 use mathlib.Core.Path.{_≡_, refl, sym, ap, _∙_}
 use mathlib.Core.Bool.{Bool, true, false, _&&_, true≢false}
-use mathlib.Core.List.{List, _++_}
+use mathlib.Core.List.{List, [], _∷_, _++_}
 use native.Mathlib.Omega.{arith}
-use lib.ListN.{length, take, drop, take-append-drop}
+use lib.ListN.{length, set, take, drop, take-append-drop}
 use lib.Seq.{drop-drop}
 use lib.Dec.{ltb}
-use borrow.Author.Tests.{ltb-true}
-use Rattle.line.specs.declared.RomStage.{RomStage}
-use Rattle.line.specs.declared.RomStage.the-variants.{Waiting, Command, Read, Match, Search}
-use Rattle.line.specs.declared.Stage.{Stage}
-use Rattle.line.specs.declared.Stage.the-variants.{Rom, Memory}
+use borrow.Author.Tests.{ltb-true, le-ltb, ne-eqb}
+use Rattle.line.specs.Transfers.{goesOn, shifted}
 use Rattle.device.specs.declared.LineState.{LineState}
-use Rattle.device.specs.Device.{lineState, waitingState}
-use Rattle.device.proofs.Laws.{waiting-sends, waiting-step, waiting-write}
+use Rattle.device.specs.Device.{lineState, waitingState, resetState, waits, resetAsIs, pulseAsIs, programAsIs}
+use Rattle.device.proofs.Range.{waits-waiting}
+use Rattle.device.proofs.Laws.{waiting-step, waiting-write, going-on-steps, going-on-writes}
 use Rattle.bus.specs.declared.Event.{Event}
-use Rattle.bus.specs.declared.Event.the-variants.{Slot, Reset, Pulse}
+use Rattle.bus.specs.declared.Event.the-variants.{Slot, Pulse}
 use Rattle.bus.specs.declared.Place.{Place}
 use Rattle.bus.specs.Bus.{Device, eventOf, nextState, nextBody}
-use Rattle.bus.specs.Loops.{isWaiting, waitsIn, idleIn, placeIn, deviceAt, deviceIn, withBody, deviceLevel, turnState, turnImage}
+use Rattle.bus.specs.Loops.{stateAsItIs, bodyAsItIs, idleIn, placeIn, deviceAt, deviceIn, withBody, turnState, turnImage}
+use Rattle.bus.specs.Loops.{lineAt, BusState, busState, turnAt, turns, turnedFrom, statesAfter}
 use Rattle.bus.proofs.Laws.{Inside, place-inside}
+use Rattle.bus.proofs.Ranges.{InRange}
 
 both : (a b : Bool) → (a && b) ≡ true → (a ≡ true) × (b ≡ true)
 both true b e = (refl, e)
 both false b e = absurd (true≢false (sym e))
 
-waits-is : (stage : Stage) → waitsIn stage ≡ true → stage ≡ waitingState .stage
-unfolding waitsIn isWaiting
-waits-is (Rom Waiting) e = refl
-waits-is (Rom (Command bits value)) e = absurd (true≢false (sym e))
-waits-is (Rom (Read at)) e = absurd (true≢false (sym e))
-waits-is (Rom (Match at)) e = absurd (true≢false (sym e))
-waits-is (Rom (Search at slot)) e = absurd (true≢false (sym e))
-waits-is (Memory m) e = absurd (true≢false (sym e))
+pub over-two : (byte : ℕ) → 2 ≤ byte → (byte ≡ 2 → ⊥) → 2 < byte
+over-two zero h other = absurd (omega arith)
+over-two (suc zero) h other = absurd (omega arith)
+over-two (suc (suc zero)) h other = absurd (other refl)
+over-two (suc (suc (suc byte))) h other = omega arith
+
+-- a byte over 2 is a program pulse
+pub event-pulse : (byte : ℕ) → 2 < byte → eventOf byte ≡ Pulse
+unfolding eventOf
+event-pulse byte h =
+    rw (
+      ne-eqb byte 0 (λ z. absurd (omega arith)),
+      ne-eqb byte 1 (λ z. absurd (omega arith)),
+      ne-eqb byte 2 (λ z. absurd (omega arith)),
+    )
 
 -- a byte below 2 is a slot
 slot-is : (P : Event → Type 0) (byte : ℕ) → byte < 2 → ((sent : Bool) → P (Slot sent)) → P (eventOf byte)
@@ -42,40 +50,158 @@ slot-is P zero h p = p false
 slot-is P (suc zero) h p = p true
 slot-is P (suc (suc byte)) h p = absurd (omega arith)
 
-module _ (byte : ℕ) (state : LineState) (idle : idleIn byte state ≡ true) where
-  unfolded : (byte < 2) × (state ≡ waitingState)
+-- a body put back where it was
+pub same-body : (image : List ℕ) (place : Place) → Inside place (length image)
+    → withBody image place (take (place .end - place .start) (drop (place .start) image)) ≡ image
+unfolding withBody
+same-body image place h =
+    let n = place .end - place .start in
+    let e : place .start + n ≡ place .end = omega (arith, h .rising) in
+    ap (λ (l : List ℕ). take (place .start) image ++ (take n (drop (place .start) image) ++ l))
+    (ap (λ (m : ℕ). drop m image) (sym e) ∙ sym (drop-drop n (place .start) image))
+    ∙ ap (λ (l : List ℕ). take (place .start) image ++ l) (take-append-drop n (drop (place .start) image))
+    ∙ take-append-drop (place .start) image
+
+-- ---- a device in range that waits
+
+module _ (byte : ℕ) (d : Device) (ranged : InRange d) (idle : idleIn byte (d .state) ≡ true) where
+  unfolded : (byte < 2) × (d .state ≡ waitingState)
   unfolding idleIn
   unfolded =
-      let two = both (ltb byte 2) (waitsIn (state .stage)) idle in
-      (ltb-true byte 2 (two .0), ap lineState (waits-is (state .stage) (two .1)))
+      let two = both (ltb byte 2) (waits (d .state)) idle in
+      (ltb-true byte 2 (two .0), waits-waiting (d .state) (d .kind) (d .body) ranged (two .1))
 
-  module _ (image : List ℕ) (i : ℕ) where
-    abbrev d : Device
-    d = deviceIn image i state
+  pub idle-state : (level : Bool) → d .state ≡ nextState (eventOf byte) level d
+  unfolding nextState
+  idle-state level =
+      slot-is (λ (v : Event). d .state ≡ nextState v level d) byte (unfolded .0)
+      (λ sent. rw (unfolded .1) (sym (waiting-step (d .kind) (d .body) level)))
 
-    pub idle-level : true ≡ deviceLevel (eventOf byte) d
-    unfolding deviceLevel deviceIn deviceAt
-    idle-level = slot-is (λ (v : Event). true ≡ deviceLevel v d) byte (unfolded .0)
-        (λ sent. sym (ap (λ (s : LineState). deviceLevel (Slot sent) (deviceIn image i s)) (unfolded .1) ∙ waiting-sends _ _))
+  pub idle-body : (level : Bool) → d .body ≡ nextBody (eventOf byte) level d
+  unfolding nextBody
+  idle-body level =
+      slot-is (λ (v : Event). d .body ≡ nextBody v level d) byte (unfolded .0)
+      (λ sent. rw (unfolded .1) (sym (waiting-write (d .kind) (d .body) level)))
 
-    pub idle-state : (level : Bool) → state ≡ turnState image i state byte level
-    unfolding turnState nextState deviceIn deviceAt
-    idle-state level = slot-is (λ (v : Event). state ≡ nextState v level d) byte (unfolded .0)
-        (λ sent. unfolded .1 ∙ sym (ap (λ (s : LineState). nextState (Slot sent) level (deviceIn image i s)) (unfolded .1) ∙ waiting-step _ _ level))
+-- ---- inside a transfer
 
-    -- a body put back where it was
-    same-body : (place : Place) → Inside place (length image) → withBody image place (take (place .end - place .start) (drop (place .start) image)) ≡ image
-    unfolding withBody
-    same-body place h =
-        let n = place .end - place .start in
-        let e : place .start + n ≡ place .end = omega (arith, h .rising) in
-        ap (λ (l : List ℕ). take (place .start) image ++ (take n (drop (place .start) image) ++ l)) (ap (λ (m : ℕ). drop m image) (sym e) ∙ sym (drop-drop n (place .start) image))
-        ∙ ap (λ (l : List ℕ). take (place .start) image ++ l) (take-append-drop n (drop (place .start) image))
-        ∙ take-append-drop (place .start) image
+module _ (state : LineState) (inside : goesOn (state .transfer) ≡ true) (image : List ℕ) (i : ℕ) (level : Bool) where
+  awake : idleIn 1 state ≡ false
+  unfolding idleIn waits
+  awake =
+      let more : 1 < state .transfer .left = ltb-true 1 (state .transfer .left) inside in
+      ne-eqb (state .transfer .left) 0 (λ none. absurd (omega (arith, more, none)))
 
-    pub idle-image : (level : Bool) → image ≡ turnImage image i state byte level
-    unfolding turnImage nextBody deviceIn deviceAt
-    idle-image level = slot-is (λ (v : Event). image ≡ withBody image (placeIn image i) (nextBody v level d)) byte (unfolded .0)
-        (λ sent. sym (ap (λ (s : LineState). withBody image (placeIn image i) (nextBody (Slot sent) level (deviceIn image i s))) (unfolded .1)
-        ∙ ap (withBody image (placeIn image i)) (waiting-write _ _ level)
-        ∙ same-body (placeIn image i) (place-inside image i)))
+  pub inside-state : lineState (shifted (state .transfer) level) ≡ turnState image i state 1 level
+  unfolding turnState eventOf stateAsItIs deviceIn deviceAt
+  inside-state = rw awake (sym (going-on-steps state _ _ level inside))
+
+  pub inside-image : image ≡ turnImage image i state 1 level
+  unfolding turnImage eventOf bodyAsItIs deviceIn deviceAt
+  inside-image =
+      rw awake (sym (ap (withBody image (placeIn image i)) (going-on-writes state _ _ level inside)
+      ∙ same-body image (placeIn image i) (place-inside image i)))
+
+-- ---- what has no part in a device's turn
+
+module _ (image : List ℕ) (i : ℕ) (state : LineState) where
+  -- what the master sends in a slot
+  pub slot-state : (byte : ℕ) (level : Bool) → byte < 2 → turnState image i state 1 level ≡ turnState image i state byte level
+  unfolding turnState idleIn eventOf stateAsItIs
+  slot-state zero level h = refl
+  slot-state (suc zero) level h = refl
+  slot-state (suc (suc byte)) level h = absurd (omega arith)
+
+  pub slot-image : (byte : ℕ) (level : Bool) → byte < 2 → turnImage image i state 1 level ≡ turnImage image i state byte level
+  unfolding turnImage idleIn eventOf bodyAsItIs
+  slot-image zero level h = refl
+  slot-image (suc zero) level h = refl
+  slot-image (suc (suc byte)) level h = absurd (omega arith)
+
+  -- a reset and a program pulse
+  pub reset-turn : (level : Bool) → (turnState image i state 2 level ≡ resetState)
+      × (turnImage image i state 2 level ≡ withBody image (placeIn image i) (resetAsIs state (deviceIn image i state .body)))
+  unfolding turnState turnImage idleIn eventOf stateAsItIs bodyAsItIs deviceIn deviceAt
+  reset-turn level = (refl, refl)
+
+  pub pulse-turn : (byte : ℕ) (level : Bool) → 2 < byte → (turnState image i state byte level ≡ pulseAsIs state (deviceIn image i state .body))
+      × (turnImage image i state byte level ≡ withBody image (placeIn image i) (programAsIs state (deviceIn image i state .body)))
+  unfolding turnState turnImage idleIn stateAsItIs bodyAsItIs deviceIn deviceAt
+  pulse-turn byte level h =
+      let e : eventOf byte ≡ Pulse = event-pulse byte h in
+      let awake′ : ltb byte 2 ≡ false = le-ltb byte 2 (omega arith) in
+      (rw (awake′, e), rw (awake′, e))
+
+  -- their level
+  pub other-state : (byte : ℕ) (level : Bool) → 2 ≤ byte → turnState image i state byte true ≡ turnState image i state byte level
+  other-state zero level h = absurd (omega arith)
+  other-state (suc zero) level h = absurd (omega arith)
+  other-state (suc (suc zero)) level h = reset-turn true .0 ∙ sym (reset-turn level .0)
+  other-state (suc (suc (suc b))) level h =
+      let more : 2 < suc (suc (suc b)) = omega arith in
+      pulse-turn (suc (suc (suc b))) true more .0 ∙ sym (pulse-turn (suc (suc (suc b))) level more .0)
+
+  pub other-image : (byte : ℕ) (level : Bool) → 2 ≤ byte → turnImage image i state byte true ≡ turnImage image i state byte level
+  other-image zero level h = absurd (omega arith)
+  other-image (suc zero) level h = absurd (omega arith)
+  other-image (suc (suc zero)) level h = reset-turn true .1 ∙ sym (reset-turn level .1)
+  other-image (suc (suc (suc b))) level h =
+      let more : 2 < suc (suc (suc b)) = omega arith in
+      pulse-turn (suc (suc (suc b))) true more .1 ∙ sym (pulse-turn (suc (suc (suc b))) level more .1)
+
+-- ---- a device that waits is not stored again
+
+set-same : (lines : List LineState) (i : ℕ) → set lines i (lineAt lines i) ≡ lines
+set-same [] i = refl
+set-same (state ∷ lines) zero = refl
+set-same (state ∷ lines) (suc i) = ap (λ (l : List LineState). state ∷ l) (set-same lines i)
+
+pub idle-line : (image : List ℕ) (i : ℕ) (level : Bool) (lines : List LineState) → waits (lineAt lines i) ≡ true
+    → set lines i (turnState image i (lineAt lines i) 1 level) ≡ lines
+unfolding turnState idleIn
+idle-line image i level lines idle = rw idle (set-same lines i)
+
+pub idle-turn : (level : Bool) (i : ℕ) (s : BusState) → waits (lineAt (s .lines) i) ≡ true → turnAt 1 level i s ≡ s
+unfolding turnAt turnImage idleIn
+idle-turn level i s idle =
+    ap (λ (l : List LineState). busState (turnImage (s .image) i (lineAt (s .lines) i) 1 level) l) (idle-line (s .image) i level (s .lines) idle)
+    ∙ rw idle
+
+-- ---- the same of all devices
+
+module _ (v w : ℕ) (l k : Bool)
+    (state-same : (image : List ℕ) (i : ℕ) (state : LineState) → turnState image i state v l ≡ turnState image i state w k) where
+  pub turned-same : (image : List ℕ) (i : ℕ) (states : List LineState) → turnedFrom image i states v l ≡ turnedFrom image i states w k
+  unfolding turnedFrom
+  turned-same image i [] = refl
+  turned-same image i (state ∷ states) = λ j. state-same image i state j ∷ turned-same image (suc i) states j
+
+  module _ (image-same : (image : List ℕ) (i : ℕ) (state : LineState) → turnImage image i state v l ≡ turnImage image i state w k) where
+    turn-same : (i : ℕ) (s : BusState) → turnAt v l i s ≡ turnAt w k i s
+    unfolding turnAt
+    turn-same i s = λ j. busState (image-same (s .image) i (lineAt (s .lines) i) j) (set (s .lines) i (state-same (s .image) i (lineAt (s .lines) i) j))
+
+    pub turns-same : (i : ℕ) (s : BusState) → turns v l i s ≡ turns w k i s
+    unfolding turns
+    turns-same zero s = refl
+    turns-same (suc i) s = ap (turnAt v l i) (turns-same i s) ∙ turn-same i (turns w k i s)
+
+pub turns-slot : (byte : ℕ) (level : Bool) (n : ℕ) (s : BusState) → byte < 2 → turns 1 level n s ≡ turns byte level n s
+turns-slot byte level n s h =
+    turns-same 1 byte level level (λ image i state. slot-state image i state byte level h) (λ image i state. slot-image image i state byte level h) n s
+
+pub turns-other : (byte : ℕ) (level : Bool) (n : ℕ) (s : BusState) → 2 ≤ byte → turns byte true n s ≡ turns byte level n s
+turns-other byte level n s h =
+    turns-same byte byte true level (λ image i state. other-state image i state byte level h) (λ image i state. other-image image i state byte level h) n s
+
+pub states-slot : (image : List ℕ) (lines : List LineState) (n byte : ℕ) (level : Bool) → byte < 2
+    → statesAfter image lines n 1 level ≡ statesAfter image lines n byte level
+unfolding statesAfter
+states-slot image lines n byte level h =
+    ap (λ (l : List LineState). l ++ drop n lines) (turned-same 1 byte level level (λ image i state. slot-state image i state byte level h) image 0 (take n lines))
+
+pub states-other : (image : List ℕ) (lines : List LineState) (n byte : ℕ) (level : Bool) → 2 ≤ byte
+    → statesAfter image lines n byte true ≡ statesAfter image lines n byte level
+unfolding statesAfter
+states-other image lines n byte level h =
+    ap (λ (l : List LineState). l ++ drop n lines) (turned-same byte byte true level (λ image i state. other-state image i state byte level h) image 0 (take n lines))

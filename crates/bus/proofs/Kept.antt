@@ -6,9 +6,9 @@ use native.Mathlib.Omega.{arith}
 use lib.ListN.{length, getD, take, drop, length-append, length-take}
 use lib.Seq.{length-take-le, take-append-le, take-at, drop-at, split-at}
 use Rattle.bits.specs.Crc.{registered}
-use Rattle.kind.specs.Kind.{bodySize, codeLength}
+use Rattle.kind.specs.Kind.{bodySize, codeLength, isUnknown}
 use Rattle.image.specs.Image.{countOf, packedAt, codeAt}
-use Rattle.image.specs.Refusal.{unknown, imageRefusal}
+use Rattle.image.specs.Refusal.{imageRefusal}
 use Rattle.image.proofs.Accepted.{Known, accepted-known, known-accepted, code-length}
 use Rattle.device.specs.declared.LineState.{LineState}
 use Rattle.bus.specs.Bus.{Device, runTrace}
@@ -81,7 +81,7 @@ module _ (image : List ℕ) (known : Known image) where
       few = omega (arith, count-kept image known ds, known .few);
       edition = contents-at image known ds 1 (omega arith) ∙ known .edition;
       second = λ i h. contents-at image known ds (2 + 4 * i + 1) (omega (arith, below i h)) ∙ known .second i (below i h);
-      kind = λ i h. ap unknown (kind-kept image known ds i (below i h)) ∙ known .kind i (below i h);
+      kind = λ i h. ap isUnknown (kind-kept image known ds i (below i h)) ∙ known .kind i (below i h);
       placed = λ i h. offset-kept image known ds i (below i h) ∙ known .placed i (below i h) ∙ sym (packed-kept i (omega (arith, below i h)));
       whole = size-kept ∙ sym (packed-kept (countOf image) (omega arith)) ∙ ap (packedAt P) (sym (count-kept image known ds));
       code = λ i h. ap registered (code-kept i (below i h)) ∙ known .code i (below i h);

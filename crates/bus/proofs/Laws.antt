@@ -4,12 +4,11 @@ use mathlib.Core.Path.{_≡_, refl, sym, ap, subst, _∙_}
 use mathlib.Core.Bool.{Bool, true, false, cond, _&&_, _||_, or-assoc, or-false, true≢false}
 use mathlib.Core.List.{List, [], _∷_, _++_}
 use native.Mathlib.Omega.{arith}
-use native.Mathlib.Nat.{not-suc-le-zero, le-of-suc-le-suc}
 use native.Mathlib.Numerals.{add-one}
 use lib.ListN.{length, getD, drop, drop-of-length-le, length-set, length-append, length-drop}
 use lib.Seq.{drop-cons, length-take-le}
 use lib.Dec.{ltb, leb, lit<}
-use borrow.Author.Tests.{leb-true, ltb-false, le-ltb}
+use borrow.Author.Tests.{leb-true, ltb-true, ltb-false, le-ltb}
 use Rattle.kind.specs.declared.Kind.the-variants.{Unknown}
 use Rattle.kind.specs.Kind.{bodySize}
 use Rattle.image.specs.Image.{countOf, kindAt, offsetAt}
@@ -17,9 +16,11 @@ use Rattle.image.specs.Refusal.{Cause, cause, firstOf, imageCauses, imageRefusa
 use Rattle.device.specs.declared.LineState.{LineState}
 use Rattle.bus.specs.Refusal.{someByte, badTrace, badPulse, noRunRoom, runCauses, runRefusal}
 use Rattle.bus.specs.declared.Place.{Place}
-use Rattle.bus.specs.Bus.{eventOf, nextBody}
-use Rattle.bus.specs.Loops.{placeIn, deviceAt, deviceIn, withBody, turnImage, lineAt, servedOf, BusState, turnAt, turns, filled, RunState, eventAt, events}
-use Rattle.bus.proofs.Runs.{next-length}
+use Rattle.device.proofs.Keeps.{slot-keeps, reset-keeps, program-keeps}
+use Rattle.bus.specs.declared.Event.{Event}
+use Rattle.bus.specs.declared.Event.the-variants.{Slot, Reset, Pulse}
+use Rattle.bus.specs.Bus.{Device, eventOf}
+use Rattle.bus.specs.Loops.{bodyAsItIs, idleIn, placeIn, deviceAt, deviceIn, withBody, turnImage, lineAt, fewerOf, BusState, turnAt, turns, filled, RunState, eventAt, events}
 
 -- ---- the place of a body
 
@@ -148,13 +149,30 @@ unfolding withBody
 with-body-length image place body h e =
     simp (length-append, length-drop, length-take-le (place .start) image (omega (arith, h .rising, h .within)), e) (omega (arith, h .rising, h .within))
 
-turn-image-length : (image : List ℕ) (i : ℕ) (state : LineState) (byte : ℕ) (level : Bool) → length (turnImage image i state byte level) ≡ length image
-unfolding turnImage deviceIn deviceAt
-turn-image-length image i state byte level =
+body-kept : (event : Event) (level : Bool) (d : Device) → length (bodyAsItIs event level d) ≡ length (d .body)
+unfolding bodyAsItIs
+body-kept (Slot sent) level d = slot-keeps (d .state) (d .kind) (d .body) level .same-length
+body-kept Reset level d = reset-keeps (d .state) (d .body) .same-length
+body-kept Pulse level d = program-keeps (d .state) (d .body) .same-length
+
+put-length : (image : List ℕ) (i : ℕ) (state : LineState) (byte : ℕ) (level : Bool)
+    → length (withBody image (placeIn image i) (bodyAsItIs (eventOf byte) level (deviceIn image i state))) ≡ length image
+unfolding deviceIn deviceAt
+put-length image i state byte level =
     let h = place-inside image i in
-    with-body-length image (placeIn image i) (nextBody (eventOf byte) level (deviceIn image i state)) h
-    (next-length (eventOf byte) level (deviceIn image i state)
-    ∙ length-take-le (placeIn image i .end - placeIn image i .start) (drop (placeIn image i .start) image) (rw length-drop (omega (arith, h .rising, h .within))))
+    with-body-length image (placeIn image i) (bodyAsItIs (eventOf byte) level (deviceIn image i state)) h
+    (body-kept (eventOf byte) level (deviceIn image i state)
+    ∙ length-take-le (placeIn image i .end - placeIn image i .start) (drop (placeIn image i .start) image)
+    (rw length-drop (omega (arith, h .rising, h .within))))
+
+either-length : (b : Bool) (xs ys zs : List ℕ) → length xs ≡ length zs → length ys ≡ length zs → length (cond b xs ys) ≡ length zs
+either-length true xs ys zs h k = h
+either-length false xs ys zs h k = k
+
+turn-image-length : (image : List ℕ) (i : ℕ) (state : LineState) (byte : ℕ) (level : Bool)
+    → length (turnImage image i state byte level) ≡ length image
+unfolding turnImage
+turn-image-length image i state byte level = either-length (idleIn byte state) image _ image refl (put-length image i state byte level)
 
 pub turns-image-length : (byte : ℕ) (level : Bool) (i : ℕ) (s : BusState) → length (turns byte level i s .image) ≡ length (s .image)
 unfolding turns turnAt
@@ -167,15 +185,23 @@ unfolding turns turnAt
 turns-lines-length byte level zero s = refl
 turns-lines-length byte level (suc i) s = simp (length-set, turns-lines-length byte level i s)
 
--- ---- how many devices have a line state
+-- ---- the smaller of two numbers
 
-served-at : (lines n : ℕ) (b : Bool) → ltb lines n ≡ b → cond b lines n ≤ lines
-served-at lines n true e = omega arith
-served-at lines n false e = ltb-false lines n e
+fewer-at : (a b : ℕ) (t : Bool) → ltb a b ≡ t → cond t a b ≤ b
+fewer-at a b true e = let h : a < b = ltb-true a b e in omega arith
+fewer-at a b false e = omega arith
 
-pub served-lines : (image : List ℕ) (lines : ℕ) → servedOf image lines ≤ lines
-unfolding servedOf
-served-lines image lines = served-at lines (countOf image) (ltb lines (countOf image)) refl
+pub fewer-second : (a b : ℕ) → fewerOf a b ≤ b
+unfolding fewerOf
+fewer-second a b = fewer-at a b (ltb a b) refl
+
+first-at : (a b : ℕ) (t : Bool) → ltb a b ≡ t → a ≤ b → cond t a b ≡ a
+first-at a b true e h = refl
+first-at a b false e h = let k : b ≤ a = ltb-false a b e in omega arith
+
+pub fewer-first : (a b : ℕ) → a ≤ b → fewerOf a b ≡ a
+unfolding fewerOf
+fewer-first a b h = first-at a b (ltb a b) refl h
 
 -- ---- the run's state
 

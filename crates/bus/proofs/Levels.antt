@@ -1,88 +1,71 @@
--- The loop of `level`: the level of the line with the first i devices on it, and that with all it is the level that document 01 names.
--- Assumes nothing.
-use Prim.Native.Nat.{ℕ, zero, suc, _+_, _<_, _≤_}
+-- The loop of `level`: whether the first i devices leave the line high, and that with all that are asked the level is the one that
+-- `levelOn` names. Assumes nothing.
+use Prim.Native.Nat.{ℕ, zero, suc, _+_, _≤_}
 use mathlib.Core.Path.{_≡_, refl, sym, ap, _∙_}
-use mathlib.Core.Bool.{Bool, true, false, not, cond, _&&_, _||_, or-false, or-assoc}
+use mathlib.Core.Bool.{Bool, true, false, cond, _&&_, and-assoc, and-true}
 use mathlib.Core.List.{List, [], _∷_, _++_}
 use native.Mathlib.Omega.{arith}
 use lib.ListN.{length, take}
-use lib.Seq.{length-take-le, take-suc, take-all, take-length}
-use lib.Dec.{ltb}
-use borrow.Author.Tests.{ltb-true}
-use Rattle.image.specs.Image.{countOf}
+use lib.Seq.{take-suc, take-all, take-length, length-take-le}
+use lib.Dec.{eqb, ltb}
+use borrow.Author.Tests.{ltb-false, ne-eqb}
 use Rattle.device.specs.declared.LineState.{LineState}
-use Rattle.device.specs.Device.{waitingState, sendsOf}
-use Rattle.bus.specs.declared.Event.{Event}
-use Rattle.bus.specs.declared.Event.the-variants.{Slot, Reset, Pulse}
-use Rattle.bus.specs.Bus.{Device, eventOf, pullsLow, someLow, presence, levelOf}
-use Rattle.bus.specs.Loops.{deviceIn, devicesIn, levelOn, servedOf, masterLevel, deviceLevel, lineAt}
-use Rattle.bus.proofs.Laws.{served-lines}
+use Rattle.device.specs.Device.{waitingState, sendsAsIs}
+use Rattle.bus.specs.Bus.{eventOf}
+use Rattle.bus.specs.Loops.{allHigh, nothingThere, levelAsItIs, levelOn, fewerOf, askedOf, levelWhere, lineAt}
+use Rattle.bus.proofs.Idle.{event-pulse}
+use Rattle.bus.proofs.Laws.{fewer-second}
 
--- the level of the line with the master and the first i devices on it
-unfoldable pub levelWith : List ℕ → List LineState → ℕ → ℕ → Bool
-levelWith image lines byte zero = masterLevel (eventOf byte)
-levelWith image lines byte (suc i) = levelWith image lines byte i && deviceLevel (eventOf byte) (deviceIn image i (lineAt lines i))
+-- whether the line is high in a slot with the first i devices on it
+unfoldable pub highWith : List LineState → ℕ → Bool
+highWith lines zero = true
+highWith lines (suc i) = highWith lines i && sendsAsIs (lineAt lines i)
 
--- ---- with no device on the line, and with one more
-level-none : (event : Event) → masterLevel event ≡ levelOf event []
-unfolding masterLevel levelOf someLow presence
-level-none (Slot true) = refl
-level-none (Slot false) = refl
-level-none Reset = refl
-level-none Pulse = refl
+-- ---- with one device more
+high-more : (xs : List LineState) (s : LineState) → allHigh (xs ++ s ∷ []) ≡ (allHigh xs && sendsAsIs s)
+unfolding allHigh
+high-more [] s = and-true (sendsAsIs s)
+high-more (x ∷ xs) s = ap (λ (b : Bool). sendsAsIs x && b) (high-more xs s) ∙ sym (and-assoc (sendsAsIs x) (allHigh xs) (sendsAsIs s))
 
-low-more : (xs : List Device) (d : Device) → someLow (xs ++ d ∷ []) ≡ (someLow xs || pullsLow d)
-unfolding someLow
-low-more [] d = or-false (pullsLow d)
-low-more (x ∷ xs) d = ap (λ (b : Bool). pullsLow x || b) (low-more xs d) ∙ sym (or-assoc (pullsLow x) (someLow xs) (pullsLow d))
+high-upto : (lines : List LineState) (i : ℕ) → i ≤ length lines → highWith lines i ≡ allHigh (take i lines)
+unfolding highWith allHigh
+high-upto lines zero h = refl
+high-upto lines (suc i) h =
+    ap (λ (b : Bool). b && sendsAsIs (lineAt lines i)) (high-upto lines i (omega arith))
+    ∙ sym (high-more (take i lines) (lineAt lines i))
+    ∙ ap allHigh (sym (take-suc lines i waitingState h))
 
-slot-more : (a b c : Bool) → not (a || (b || not c)) ≡ (not (a || b) && c)
-slot-more true b c = refl
-slot-more false true c = refl
-slot-more false false true = refl
-slot-more false false false = refl
+nothing-is : (xs : List LineState) → eqb (length xs) 0 ≡ nothingThere xs
+unfolding nothingThere
+nothing-is [] = refl
+nothing-is (x ∷ xs) = ne-eqb (suc (length xs)) 0 (λ z. absurd (omega arith))
 
-level-more : (event : Event) (xs : List Device) (d : Device) → levelOf event (xs ++ d ∷ []) ≡ (levelOf event xs && deviceLevel event d)
-unfolding levelOf deviceLevel pullsLow presence
-level-more (Slot sent) xs d = ap (λ (b : Bool). not (not sent || b)) (low-more xs d) ∙ slot-more (not sent) (someLow xs) (sendsOf (d .state) (d .kind) (d .body))
-level-more Reset [] d = refl
-level-more Reset (x ∷ xs) d = refl
-level-more Pulse xs d = refl
+-- ---- the loop, on the line states of n devices
+at-event : (lines : List LineState) (byte n : ℕ) → n ≤ length lines
+    → levelWhere (eventOf byte) n (highWith lines (askedOf byte n)) ≡ levelAsItIs (eventOf byte) (take n lines)
+unfolding eventOf levelWhere askedOf levelAsItIs
+at-event lines zero n h = refl
+at-event lines (suc zero) n h = high-upto lines n h
+at-event lines (suc (suc zero)) n h = ap (λ (m : ℕ). eqb m 0) (sym (length-take-le n lines h)) ∙ nothing-is (take n lines)
+at-event lines (suc (suc (suc byte))) n h = rw (event-pulse (suc (suc (suc byte))) (omega arith))
 
--- ---- the devices of one line state more
-pub devices-more : (image : List ℕ) (j : ℕ) (states : List LineState) (state : LineState)
-    → devicesIn image j (states ++ state ∷ []) ≡ devicesIn image j states ++ deviceIn image (j + length states) state ∷ []
-unfolding devicesIn
-devices-more image j [] state =
-    let e : j ≡ j + 0 = omega arith in
-    ap (λ (k : ℕ). deviceIn image k state ∷ []) e
-devices-more image j (s ∷ states) state =
-    let e : suc j + length states ≡ j + suc (length states) = omega arith in
-    ap (λ (l : List Device). deviceIn image j s ∷ l) (devices-more image (suc j) states state ∙ ap (λ (k : ℕ). devicesIn image (suc j) states ++ deviceIn image k state ∷ []) e)
+-- as many line states are lent, or fewer
+pub fewer-take : (lines : List LineState) (n : ℕ) (b : Bool) → ltb n (length lines) ≡ b → take (cond b n (length lines)) lines ≡ take n lines
+fewer-take lines n true e = refl
+fewer-take lines n false e = take-length lines ∙ sym (take-all n lines (ltb-false n (length lines) e))
 
--- ---- the loop
-level-upto : (image : List ℕ) (lines : List LineState) (byte i : ℕ) → i ≤ length lines → levelWith image lines byte i ≡ levelOf (eventOf byte) (devicesIn image 0 (take i lines))
-unfolding levelWith devicesIn
-level-upto image lines byte zero h = level-none (eventOf byte)
-level-upto image lines byte (suc i) h =
-    let state = lineAt lines i in
-    let index : 0 + length (take i lines) ≡ i = omega (arith, length-take-le i lines (omega arith)) in
-    let more : devicesIn image 0 (take (suc i) lines) ≡ devicesIn image 0 (take i lines) ++ deviceIn image i state ∷ [] =
-    ap (devicesIn image 0) (take-suc lines i waitingState h)
-    ∙ devices-more image 0 (take i lines) state
-    ∙ ap (λ (k : ℕ). devicesIn image 0 (take i lines) ++ deviceIn image k state ∷ []) index in
-    ap (λ (b : Bool). b && deviceLevel (eventOf byte) (deviceIn image i state)) (level-upto image lines byte i (omega arith))
-    ∙ sym (level-more (eventOf byte) (devicesIn image 0 (take i lines)) (deviceIn image i state))
-    ∙ ap (levelOf (eventOf byte)) (sym more)
+pub level-loop : (lines : List LineState) (n byte : ℕ)
+    → levelWhere (eventOf byte) (fewerOf n (length lines)) (highWith lines (askedOf byte (fewerOf n (length lines)))) ≡ levelOn lines n byte
+unfolding levelOn fewerOf
+level-loop lines n byte =
+    at-event lines byte (fewerOf n (length lines)) (fewer-second n (length lines))
+    ∙ ap (levelAsItIs (eventOf byte)) (fewer-take lines n (ltb n (length lines)) refl)
 
-pub served-take : (lines : List LineState) (n : ℕ) (b : Bool) → ltb (length lines) n ≡ b → take (cond b (length lines) n) lines ≡ take n lines
-served-take lines n true e =
-    let h : length lines < n = ltb-true (length lines) n e in
-    take-length lines ∙ sym (take-all n lines (omega arith))
-served-take lines n false e = refl
+asked-at : (n : ℕ) (b : Bool) → cond b n 0 ≤ n
+asked-at n true = omega arith
+asked-at n false = omega arith
 
-pub level-loop : (image : List ℕ) (lines : List LineState) (byte : ℕ) → levelWith image lines byte (servedOf image (length lines)) ≡ levelOn image lines byte
-unfolding levelOn servedOf
-level-loop image lines byte =
-    level-upto image lines byte (servedOf image (length lines)) (served-lines image (length lines))
-    ∙ ap (λ (l : List LineState). levelOf (eventOf byte) (devicesIn image 0 l)) (served-take lines (countOf image) (ltb (length lines) (countOf image)) refl)
+-- no more are asked than there are
+pub asked-few : (byte n : ℕ) → askedOf byte n ≤ n
+unfolding askedOf
+asked-few byte n = asked-at n (eqb byte 1)

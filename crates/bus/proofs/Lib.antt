@@ -1,10 +1,10 @@
 pub mod Idle
-pub mod Again
 pub mod Kept
 pub mod Laws
 pub mod Levels
 pub mod Lines
-pub mod Parts
+pub mod Ranges
 pub mod Runs
+pub mod Shapes
 pub mod Shown
 pub mod States

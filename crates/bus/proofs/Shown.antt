@@ -1,7 +1,7 @@
 -- Where the image is not refused and there is room, what the loops of `specs/Loops.antt` do is what `specs/Bus.antt` and `specs/Run.antt` say.
 use Prim.Native.Nat.{ℕ, zero, suc, _+_, _-_, _*_, _<_, _≤_}
 use mathlib.Core.Path.{_≡_, refl, sym, ap, subst, _∙_}
-use mathlib.Core.Bool.{Bool, not}
+use mathlib.Core.Bool.{Bool, true, false, cond, not}
 use mathlib.Core.List.{List, [], _∷_, _++_, map, append-assoc, append-nil, map-append}
 use native.Mathlib.Omega.{arith}
 use native.Mathlib.Nat.{add-zero}
@@ -9,7 +9,7 @@ use native.Mathlib.Numerals.{add-one}
 use lib.ListN.{length, getD, set, take, drop, replicate, length-append, length-map, length-replicate, take-append-drop, replicate-append-replicate, List·getD-append}
 use lib.Seq.{length-take-le, getD-take, take-at, drop-at, getD-at, set-at, drop-append-add, take-suc, drop-cons, append-snoc, take-length, drop-length, drop-drop}
 use lib.Dec.{T, eqb}
-use borrow.Author.Tests.{lt-ltb, le-ltb, le-leb}
+use borrow.Author.Tests.{lt-ltb, le-leb}
 use Rattle.kind.specs.declared.Kind.{Kind}
 use Rattle.kind.specs.declared.Kind.the-variants.{Unknown}
 use Rattle.kind.specs.Kind.{kindOf, bodySize, codeLength}
@@ -23,8 +23,11 @@ use Rattle.bits.specs.Bit.{levelByte}
 use Rattle.bus.specs.Bus.{Device, deviceWith, eventOf, levelOf, nextState, nextBody, nextDevice, busStepAt, busStep, Run, withAnswer, runTrace}
 use Rattle.bus.specs.Run.{devicesFrom, waitingDevices, tableOfContents, bodiesOf, statesOf, runOutcome, leftByRun, runAt, runOf, RunOutcome, RunLeaves}
 use Rattle.bus.specs.Refusal.{someByte, badTrace, badPulse, runRefusal}
-use Rattle.bus.specs.Loops.{placeIn, deviceAt, deviceIn, withBody, turnState, turnImage, devicesIn, levelOn, servedOf, lineAt, BusState, busState, turnAt, turns, filled, RunState, runState, eventAt, events}
+use Rattle.bus.specs.Loops.{idleIn, stateAsItIs, bodyAsItIs, placeIn, deviceAt, deviceIn, withBody, turnState, turnImage, levelAsItIs, levelOn, lineAt, BusState, busState, turnAt, turns, filled, RunState, runState, eventAt, events}
+use Rattle.device.proofs.Range.{waiting-in-range}
 use Rattle.bus.proofs.Laws.{admitted, not-refused}
+use Rattle.bus.proofs.Ranges.{InRange, AllIn, as-it-is-state, as-it-is-body, level-as-it-is, part-in, in-at, run-in}
+use Rattle.bus.proofs.Idle.{idle-state, idle-body}
 use Rattle.bus.proofs.Runs.{runAfter, run-append, run-length, run-same, AllSame, none, also, part-same, same-length}
 
 -- ---- devices that stand at the entries of an image from i on
@@ -193,34 +196,48 @@ module _ (image : List ℕ) (known : Known image) where
         ∙ set-at (statesOf xs) (d .state) (linesOf ys) (e .state) (length xs) (states-length xs e ys)
         ∙ sym (lines-split xs e ys)
 
-    -- the turn of one device
-    turn-is : (byte : ℕ) (level : Bool) (xs : List Device) (d : Device) (ys : List Device) → Stand image 0 (xs ++ d ∷ ys) → length (xs ++ d ∷ ys) ≡ countOf image
-        → turnAt byte level (length xs) (busStateOf (xs ++ d ∷ ys)) ≡ busStateOf (xs ++ nextDevice (eventOf byte) level d ∷ ys)
-    unfolding turnAt turnImage turnState nextDevice
-    turn-is byte level xs d ys stand all =
-        let P = imageOf (xs ++ d ∷ ys) in
-        let i = length xs in
-        let e = nextDevice (eventOf byte) level d in
-        let L = linesOf (xs ++ d ∷ ys) in
-        ap (λ (s : LineState). busState (turnImage P i s byte level) (set L i (turnState P i s byte level))) (line-is xs d ys)
-        ∙ ap (λ (c : Device). busState (withBody P (placeIn P i) (nextBody (eventOf byte) level c)) (set L i (nextState (eventOf byte) level c))) (device-is xs d ys stand all)
-        ∙ ap (λ (l : List ℕ). busState l (set L i (e .state))) (body-put xs d ys stand all e)
-        ∙ ap (λ (l : List LineState). busState (imageOf (xs ++ e ∷ ys)) l) (line-put xs d e ys)
+    -- the turn of one device that is in range
+    module _ (byte : ℕ) (level : Bool) (xs : List Device) (d : Device) (ys : List Device) (stand : Stand image 0 (xs ++ d ∷ ys))
+        (all : length (xs ++ d ∷ ys) ≡ countOf image) (ranged : InRange d) where
+      abbrev whole : List ℕ
+      whole = imageOf (xs ++ d ∷ ys)
 
-    -- the devices that the image and the line states give are those that stand there
-    devices-are : (xs ys : List Device) → Stand image 0 (xs ++ ys) → length (xs ++ ys) ≡ countOf image → devicesIn (imageOf (xs ++ ys)) (length xs) (statesOf ys) ≡ ys
-    unfolding devicesIn
-    devices-are xs [] stand all = refl
-    devices-are xs (d ∷ ys) stand all =
-        let cut : (xs ++ d ∷ []) ++ ys ≡ xs ++ d ∷ ys = append-snoc xs d ys in
-        let len : length (xs ++ d ∷ []) ≡ suc (length xs) = omega (arith, length-append xs (d ∷ [])) in
-        ap (λ (c : Device). c ∷ devicesIn (imageOf (xs ++ d ∷ ys)) (suc (length xs)) (statesOf ys)) (device-is xs d ys stand all)
-        ∙ ap (λ (l : List Device). d ∷ l)
-        (ap (λ (l : List Device). devicesIn (imageOf l) (suc (length xs)) (statesOf ys)) (sym cut)
-        ∙ ap (λ (m : ℕ). devicesIn (imageOf ((xs ++ d ∷ []) ++ ys)) m (statesOf ys)) (sym len)
-        ∙ devices-are (xs ++ d ∷ []) ys (subst (Stand image 0) (sym cut) stand) (ap length cut ∙ all))
+      abbrev after : Device
+      after = nextDevice (eventOf byte) level d
 
-    module _ (ds : List Device) (stand : Stand image 0 ds) (all : length ds ≡ countOf image) where
+      turn-state : turnState whole (length xs) (d .state) byte level ≡ nextState (eventOf byte) level d
+      unfolding turnState
+      turn-state = choose (idleIn byte (d .state)) refl
+        where
+          choose : (b : Bool) → idleIn byte (d .state) ≡ b
+              → cond b (d .state) (stateAsItIs (eventOf byte) level (deviceIn whole (length xs) (d .state))) ≡ nextState (eventOf byte) level d
+          choose true e = idle-state byte d ranged e level
+          choose false e = ap (stateAsItIs (eventOf byte) level) (device-is xs d ys stand all) ∙ as-it-is-state d ranged (eventOf byte) level
+
+      turn-image : turnImage whole (length xs) (d .state) byte level ≡ imageOf (xs ++ after ∷ ys)
+      unfolding turnImage nextDevice
+      turn-image = choose (idleIn byte (d .state)) refl ∙ body-put xs d ys stand all after
+        where
+          choose : (b : Bool) → idleIn byte (d .state) ≡ b
+              → cond b whole (withBody whole (placeIn whole (length xs)) (bodyAsItIs (eventOf byte) level (deviceIn whole (length xs) (d .state))))
+              ≡ withBody whole (placeIn whole (length xs)) (nextBody (eventOf byte) level d)
+          choose true e =
+              sym (ap (λ (b : List ℕ). withBody whole (placeIn whole (length xs)) b) (sym (idle-body byte d ranged e level)) ∙ body-put xs d ys stand all d)
+          choose false e =
+              ap (λ (c : Device). withBody whole (placeIn whole (length xs)) (bodyAsItIs (eventOf byte) level c)) (device-is xs d ys stand all)
+              ∙ ap (λ (b : List ℕ). withBody whole (placeIn whole (length xs)) b) (as-it-is-body d ranged (eventOf byte) level)
+
+      turn-is : turnAt byte level (length xs) (busStateOf (xs ++ d ∷ ys)) ≡ busStateOf (xs ++ after ∷ ys)
+      unfolding turnAt nextDevice
+      turn-is =
+          let i = length xs in
+          let L = linesOf (xs ++ d ∷ ys) in
+          ap (λ (s : LineState). busState (turnImage whole i s byte level) (set L i (turnState whole i s byte level))) (line-is xs d ys)
+          ∙ ap (λ (s : LineState). busState (turnImage whole i (d .state) byte level) (set L i s)) turn-state
+          ∙ ap (λ (l : List ℕ). busState l (set L i (after .state))) turn-image
+          ∙ ap (λ (l : List LineState). busState (imageOf (xs ++ after ∷ ys)) l) (line-put xs d after ys)
+
+    module _ (ds : List Device) (stand : Stand image 0 ds) (all : length ds ≡ countOf image) (ranged : AllIn ds) where
       -- the turns of the first i devices
       turns-are : (byte : ℕ) (level : Bool) (i : ℕ) → i ≤ length ds → turns byte level i (busStateOf ds) ≡ busStateOf (map (nextDevice (eventOf byte) level) (take i ds) ++ drop i ds)
       unfolding turns
@@ -236,15 +253,15 @@ module _ (image : List ℕ) (known : Known image) where
           ap (turnAt byte level i) (turns-are byte level i (omega arith) ∙ ap busStateOf cut)
           ∙ ap (λ (j : ℕ). turnAt byte level j (busStateOf (xs ++ d ∷ ys))) (sym len)
           ∙ turn-is byte level xs d ys (stand-same image 0 same stand) (same-length same ∙ all)
+          (in-at xs d ys (subst AllIn cut (part-in (eventOf byte) level i ds ranged)))
           ∙ ap busStateOf (sym (ap (λ (l : List Device). map f l ++ ys) (take-suc ds i nobody h) ∙ ap (λ (l : List Device). l ++ ys) (map-append f (take i ds) (d ∷ [])) ∙ append-snoc xs (f d) ys))
 
-      pub level-is : (byte : ℕ) → levelOn (imageOf ds) (linesOf ds) byte ≡ levelOf (eventOf byte) ds
+      pub level-is : (byte : ℕ) → levelOn (linesOf ds) (countOf image) byte ≡ levelOf (eventOf byte) ds
       unfolding levelOn
       level-is byte =
           let len : length (statesOf ds) ≡ countOf image = length-map ds (λ (x : Device). x .state) ∙ all in
-          ap (λ (n : ℕ). levelOf (eventOf byte) (devicesIn (imageOf ds) 0 (take n (linesOf ds)))) (count-kept ds)
-          ∙ ap (λ (l : List LineState). levelOf (eventOf byte) (devicesIn (imageOf ds) 0 l)) (take-at (statesOf ds) tail (countOf image) len)
-          ∙ ap (levelOf (eventOf byte)) (devices-are [] ds stand all)
+          ap (levelAsItIs (eventOf byte)) (take-at (statesOf ds) tail (countOf image) len)
+          ∙ level-as-it-is (eventOf byte) ds ranged
 
       pub turned-is : (byte : ℕ) (level : Bool) → turns byte level (length ds) (busStateOf ds) ≡ busStateOf (map (nextDevice (eventOf byte) level) ds)
       turned-is byte level =
@@ -253,7 +270,7 @@ module _ (image : List ℕ) (known : Known image) where
           ∙ ap busStateOf (ap (λ (l : List Device). map f (take (length ds) ds) ++ l) (drop-length ds) ∙ append-nil (map f (take (length ds) ds)) ∙ ap (map f) (take-length ds))
 
     -- ---- the events of a trace, on devices that stand at the entries
-    module _ (trace answers : List ℕ) (room : length trace ≤ length answers) (ds : List Device) (stand : Stand image 0 ds) (all : length ds ≡ countOf image) where
+    module _ (trace answers : List ℕ) (room : length trace ≤ length answers) (ds : List Device) (stand : Stand image 0 ds) (all : length ds ≡ countOf image) (ranged : AllIn ds) where
       -- after k events
       abbrev ran : ℕ → Run
       ran k = runTrace (take k trace) ds
@@ -280,10 +297,11 @@ module _ (image : List ℕ) (known : Known image) where
           let same = run-same (take k trace) ds in
           let stand′ = stand-same image 0 same stand in
           let all′ : length es ≡ countOf image = same-length same ∙ all in
+          let ranged′ = run-in (take k trace) ds ranged in
           let level = levelOf (eventOf byte) es in
           let after = map (nextDevice (eventOf byte) level) es in
-          ap (λ (b : Bool). runState (turns byte b (countOf image) (busStateOf es) .image) (set (ran k .answers ++ drop k answers) k (levelByte b)) (turns byte b (countOf image) (busStateOf es) .lines)) (level-is es stand′ all′ byte)
-          ∙ ap (λ (s : BusState). runState (s .image) (set (ran k .answers ++ drop k answers) k (levelByte level)) (s .lines)) (ap (λ (m : ℕ). turns byte level m (busStateOf es)) (sym all′) ∙ turned-is es stand′ all′ byte level)
+          ap (λ (b : Bool). runState (turns byte b (countOf image) (busStateOf es) .image) (set (ran k .answers ++ drop k answers) k (levelByte b)) (turns byte b (countOf image) (busStateOf es) .lines)) (level-is es stand′ all′ ranged′ byte)
+          ∙ ap (λ (s : BusState). runState (s .image) (set (ran k .answers ++ drop k answers) k (levelByte level)) (s .lines)) (ap (λ (m : ℕ). turns byte level m (busStateOf es)) (sym all′) ∙ turned-is es stand′ all′ ranged′ byte level)
           ∙ ap (λ (l : List ℕ). runState (imageOf after) l (linesOf after)) (answers-put k (levelByte level) h)
           ∙ ap (λ (r : Run). runState (imageOf (r .devices)) (r .answers ++ drop (suc k) answers) (linesOf (r .devices))) (sym (run-next k h))
 
@@ -305,6 +323,12 @@ module _ (image : List ℕ) (known : Known image) where
   waiting-stand i (state ∷ states) e =
       let h : i < countOf image = omega arith in
       (record { kind = refl; size = body-length image known i h; code = body-code image known i h }, waiting-stand (suc i) states (omega arith))
+
+  waiting-range : (i n : ℕ) → i + n ≡ countOf image → AllIn (devicesFrom image i (replicate n waitingState))
+  unfolding devicesFrom
+  waiting-range i zero e = tt
+  waiting-range i (suc n) e =
+      (waiting-in-range (kindAt image i) (bodyAt image i) (body-length image known i (omega arith)), waiting-range (suc i) n (omega arith))
 
   devices-length : (i : ℕ) (states : List LineState) → length (devicesFrom image i states) ≡ length states
   unfolding devicesFrom
@@ -337,6 +361,10 @@ module _ (image : List ℕ) (known : Known image) where
   unfolding waitingDevices
   waiting-stands = waiting-stand 0 (replicate (countOf image) waitingState) (omega (arith, length-replicate (countOf image) waitingState))
 
+  pub waiting-in : AllIn (waitingDevices image)
+  unfolding waitingDevices
+  waiting-in = waiting-range 0 (countOf image) (omega arith)
+
   pub waiting-image : imageOf (waitingDevices image) ≡ image
   unfolding waitingDevices packedAt
   waiting-image =
@@ -361,25 +389,23 @@ filled-is (suc i) state lines h =
 -- what the loops make of image, answers and line states
 abbrev pub ends : List ℕ → List ℕ → List ℕ → List LineState → RunState
 ends trace image answers lines =
-    events trace (servedOf image (length lines)) (length trace) (runState image answers (filled (servedOf image (length lines)) waitingState lines))
+    events trace (countOf image) (length trace) (runState image answers (filled (countOf image) waitingState lines))
 
 -- is what the run is to leave, where it is not refused
 pub run-shown : (trace image answers : List ℕ) (lines : List LineState) → runRefusal image trace (length answers) (length lines) ≡ 0
     → runOutcome 0 (ends trace image answers lines .image) (ends trace image answers lines .answers) (ends trace image answers lines .lines) ≡ runOf image trace answers lines
-unfolding runOf runAt leftByRun servedOf
+unfolding runOf runAt leftByRun
 run-shown trace image answers lines e =
     let has = admitted image trace (length answers) (length lines) e in
     let known = accepted-known image (has .image-accepted) in
     let n = countOf image in
     let tail = drop n lines in
     let ds = waitingDevices image in
-    let served : servedOf image (length lines) ≡ n = rw (le-ltb (length lines) n (has .lines-room)) in
     let began : filled n waitingState lines ≡ statesOf ds ++ tail = filled-is n waitingState lines (has .lines-room) ∙ ap (λ (l : List LineState). l ++ tail) (sym (waiting-states image known)) in
     let ended : ends trace image answers lines ≡ runState (tableOfContents image ++ bodiesOf (runTrace trace ds .devices)) (runTrace trace ds .answers ++ drop (length trace) answers) (statesOf (runTrace trace ds .devices) ++ tail) =
-    ap (λ (m : ℕ). events trace m (length trace) (runState image answers (filled m waitingState lines))) served
-    ∙ ap (λ (l : List LineState). events trace n (length trace) (runState image answers l)) began
+    ap (λ (l : List LineState). events trace n (length trace) (runState image answers l)) began
     ∙ ap (λ (l : List ℕ). events trace n (length trace) (runState l answers (statesOf ds ++ tail))) (sym (waiting-image image known))
-    ∙ run-is image known tail trace answers (has .answers-room) ds (waiting-stands image known) (waiting-all image known) in
+    ∙ run-is image known tail trace answers (has .answers-room) ds (waiting-stands image known) (waiting-all image known) (waiting-in image known) in
     ap (λ (s : RunState). runOutcome 0 (s .image) (s .answers) (s .lines)) ended
     ∙ ap (λ (m : ℕ). runAt m image trace answers lines) (sym e)
 

@@ -4,38 +4,34 @@ use Prim.Native.Nat.{ℕ, zero, suc, _+_, _-_}
 use mathlib.Core.Bool.{Bool, true, false, cond, _&&_}
 use mathlib.Core.List.{List, [], _∷_, _++_, map}
 use lib.ListN.{length, getD, set, take, drop}
-use lib.Dec.{ltb, leb}
+use lib.Dec.{eqb, ltb, leb}
 use Rattle.bits.specs.Bit.{levelByte}
 use Rattle.kind.specs.declared.Kind.the-variants.{Unknown}
 use Rattle.kind.specs.Kind.{bodySize}
 use Rattle.image.specs.Image.{countOf, kindAt, offsetAt}
-use Rattle.line.specs.declared.RomStage.{RomStage}
-use Rattle.line.specs.declared.RomStage.the-variants.{Waiting, Command, Read, Match, Search}
-use Rattle.line.specs.declared.Stage.{Stage}
-use Rattle.line.specs.declared.Stage.the-variants.{Rom, Memory}
 use Rattle.device.specs.declared.LineState.{LineState}
-use Rattle.device.specs.Device.{waitingState, sendsOf}
+use Rattle.device.specs.Device.{waitingState, resetState, waits, sendsAsIs, stateAsIs, bodyAsIs, resetAsIs, pulseAsIs, programAsIs}
 use Rattle.bus.specs.declared.Event.{Event}
 use Rattle.bus.specs.declared.Event.the-variants.{Slot, Reset, Pulse}
 use Rattle.bus.specs.declared.Place.{Place}
-use Rattle.bus.specs.Bus.{Device, deviceWith, eventOf, levelOf, nextState, nextBody}
+use Rattle.bus.specs.Bus.{Device, deviceWith, eventOf}
 
--- ---- one device
+-- ---- one device, its line state taken as it is
 
--- a device that waits has no part in a slot
-unfoldable pub isWaiting : RomStage → Bool
-isWaiting Waiting = true
-isWaiting (Command bits value) = false
-isWaiting (Read at) = false
-isWaiting (Match at) = false
-isWaiting (Search at slot) = false
+-- what an event at a level makes of its line state and of its body
+unfoldable pub stateAsItIs : Event → Bool → Device → LineState
+stateAsItIs (Slot sent) level d = stateAsIs (d .state) (d .kind) (d .body) level
+stateAsItIs Reset level d = resetState
+stateAsItIs Pulse level d = pulseAsIs (d .state) (d .body)
 
-unfoldable pub waitsIn : Stage → Bool
-waitsIn (Rom r) = isWaiting r
-waitsIn (Memory m) = false
+unfoldable pub bodyAsItIs : Event → Bool → Device → List ℕ
+bodyAsItIs (Slot sent) level d = bodyAsIs (d .state) (d .kind) (d .body) level
+bodyAsItIs Reset level d = resetAsIs (d .state) (d .body)
+bodyAsItIs Pulse level d = programAsIs (d .state) (d .body)
 
+-- a device that waits is passed over in a slot
 unfoldable pub idleIn : ℕ → LineState → Bool
-idleIn byte state = ltb byte 2 && waitsIn (state .stage)
+idleIn byte state = ltb byte 2 && waits state
 
 -- where the body of device i lies, and its kind. A device that the image does not have, or has no room for, has an empty body and no kind
 unfoldable pub placeIn : List ℕ → ℕ → Place
@@ -56,36 +52,45 @@ withBody image place body = take (place .start) image ++ (body ++ drop (place .e
 
 -- a device's turn in an event at a level
 unfoldable pub turnState : List ℕ → ℕ → LineState → ℕ → Bool → LineState
-turnState image i state byte level = nextState (eventOf byte) level (deviceIn image i state)
+turnState image i state byte level = cond (idleIn byte state) state (stateAsItIs (eventOf byte) level (deviceIn image i state))
 
 unfoldable pub turnImage : List ℕ → ℕ → LineState → ℕ → Bool → List ℕ
-turnImage image i state byte level = withBody image (placeIn image i) (nextBody (eventOf byte) level (deviceIn image i state))
+turnImage image i state byte level =
+    cond (idleIn byte state) image (withBody image (placeIn image i) (bodyAsItIs (eventOf byte) level (deviceIn image i state)))
 
 -- ---- the level of an event
 
--- the devices from entry i on that an image and line states give
-unfoldable pub devicesIn : List ℕ → ℕ → List LineState → List Device
-devicesIn image i [] = []
-devicesIn image i (state ∷ states) = deviceIn image i state ∷ devicesIn image (suc i) states
+-- all of these line states leave the line high in a slot
+unfoldable pub allHigh : List LineState → Bool
+allHigh [] = true
+allHigh (state ∷ states) = sendsAsIs state && allHigh states
 
--- the level of an event on them: there are as many as the image has entries, or as line states are lent
-unfoldable pub levelOn : List ℕ → List LineState → ℕ → Bool
-levelOn image lines byte = levelOf (eventOf byte) (devicesIn image 0 (take (countOf image) lines))
+-- nothing is there to answer a reset
+unfoldable pub nothingThere : List LineState → Bool
+nothingThere [] = true
+nothingThere (state ∷ states) = false
 
--- how many that are
-unfoldable pub servedOf : List ℕ → ℕ → ℕ
-servedOf image lines = cond (ltb lines (countOf image)) lines (countOf image)
+unfoldable pub levelAsItIs : Event → List LineState → Bool
+levelAsItIs (Slot sent) states = sent && allHigh states
+levelAsItIs Reset states = nothingThere states
+levelAsItIs Pulse states = true
 
--- the level at which the master, or a device, leaves the line in an event. At a reset a device answers presence
-unfoldable pub masterLevel : Event → Bool
-masterLevel (Slot sent) = sent
-masterLevel Reset = true
-masterLevel Pulse = true
+-- of the first n devices, fewer where fewer line states are lent
+unfoldable pub levelOn : List LineState → ℕ → ℕ → Bool
+levelOn lines n byte = levelAsItIs (eventOf byte) (take n lines)
 
-unfoldable pub deviceLevel : Event → Device → Bool
-deviceLevel (Slot sent) d = sendsOf (d .state) (d .kind) (d .body)
-deviceLevel Reset d = false
-deviceLevel Pulse d = true
+-- the smaller of two numbers
+unfoldable pub fewerOf : ℕ → ℕ → ℕ
+fewerOf a b = cond (ltb a b) a b
+
+-- how many of n devices are asked, and the level where these leave the line high or not
+unfoldable pub askedOf : ℕ → ℕ → ℕ
+askedOf byte n = cond (eqb byte 1) n 0
+
+unfoldable pub levelWhere : Event → ℕ → Bool → Bool
+levelWhere (Slot sent) n high = sent && high
+levelWhere Reset n high = eqb n 0
+levelWhere Pulse n high = true
 
 -- ---- the turns of all devices
 
@@ -118,10 +123,14 @@ filled (suc i) state lines = set (filled i state lines) i state
 
 -- ---- the line states alone, where the image is only read
 
--- after an event at a level; those past the entries stay as they were
-unfoldable pub statesAfter : List ℕ → List LineState → ℕ → Bool → List LineState
-statesAfter image lines byte level =
-    map (nextState (eventOf byte) level) (devicesIn image 0 (take (countOf image) lines)) ++ drop (countOf image) lines
+-- those of the devices from entry i on, after an event at a level
+unfoldable pub turnedFrom : List ℕ → ℕ → List LineState → ℕ → Bool → List LineState
+turnedFrom image i [] byte level = []
+turnedFrom image i (state ∷ states) byte level = turnState image i state byte level ∷ turnedFrom image (suc i) states byte level
+
+-- of the first n devices; those past them stay as they were
+unfoldable pub statesAfter : List ℕ → List LineState → ℕ → ℕ → Bool → List LineState
+statesAfter image lines n byte level = turnedFrom image 0 (take n lines) byte level ++ drop n lines
 
 -- ---- a trace
 
@@ -136,7 +145,7 @@ runState image answers lines = record { image = image; answers = answers; lines 
 
 unfoldable pub eventAt : ℕ → ℕ → ℕ → RunState → RunState
 eventAt byte n k s =
-    let level = levelOn (s .image) (s .lines) byte in
+    let level = levelOn (s .lines) n byte in
     let after = turns byte level n (busState (s .image) (s .lines)) in
     runState (after .image) (set (s .answers) k (levelByte level)) (after .lines)
 

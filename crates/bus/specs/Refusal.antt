@@ -4,8 +4,7 @@ use mathlib.Core.Bool.{Bool, true, false, not, _&&_, _||_}
 use mathlib.Core.List.{List, [], _∷_, _++_}
 use lib.ListN.{length}
 use lib.Dec.{eqb, ltb}
-use Rattle.kind.specs.declared.Kind.{Kind}
-use Rattle.kind.specs.declared.Kind.the-variants.{Sram, Eprom, Unknown}
+use Rattle.kind.specs.Kind.{isEprom}
 use Rattle.image.specs.Image.{countOf, kindAt}
 use Rattle.image.specs.Refusal.{someBelow, Cause, cause, firstOf, imageCauses}
 
@@ -19,11 +18,6 @@ unfoldable pub badTrace : List ℕ → Bool
 badTrace trace = ltb 32768 (length trace) || someByte (λ byte. ltb 3 byte) trace
 
 -- 6: a 3 in the trace while a device is not a DS1982
-unfoldable pub isEprom : Kind → Bool
-isEprom (Sram size) = false
-isEprom Eprom = true
-isEprom Unknown = false
-
 unfoldable pub badPulse : List ℕ → List ℕ → Bool
 badPulse image trace =
     someByte (λ byte. eqb byte 3) trace

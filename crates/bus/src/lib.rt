@@ -1,23 +1,25 @@
 // All devices on the line: the level of an event, which every device is given, and the run of a trace.
 //
-// The image holds the devices' bodies, and a lent slice their line states. One device's part in an event is a function by value over the
-// image and its line state; the loops over all devices, over the trace, and the run above them only fetch, call and store.
+// The image holds the devices' bodies, and a lent slice their line states. One device's part in an event is a function
+// by value over the image and its line state; the loops over all devices, over the trace, and the run above them only
+// fetch, call and store.
 use device::LineState;
+use image::ACCEPTED;
 use kind::Kind;
-use line::RomStage;
-use line::Stage;
 ghost use mathlib.Core.Path.{_≡_};
 ghost use Prim.Native.Nat.{_≤_};
-ghost use mathlib.Core.Bool.{not, _&&_, _||_};
+ghost use mathlib.Core.Bool.{true, not, _&&_, _||_};
 ghost use lib.ListN.{length};
 ghost use lib.Dec.{eqb, ltb};
 ghost use Rattle.image.specs.Image.{countOf, kindAt};
 ghost use Rattle.image.specs.Refusal.{someBelow};
-ghost use Rattle.bus.specs.Bus.{deviceWith, eventOf, nextState, nextBody};
-ghost use Rattle.bus.specs.Refusal.{someByte, badTrace, isEprom, badPulse, noRunRoom, runRefusal};
+ghost use Rattle.kind.specs.Kind.{isEprom};
+ghost use Rattle.bus.specs.Bus.{eventOf};
+ghost use Rattle.bus.specs.Refusal.{someByte, badTrace, badPulse, noRunRoom, runRefusal};
 ghost use Rattle.bus.specs.Run.{RunLeaves, runOf};
-ghost use Rattle.bus.specs.Loops.{isWaiting, waitsIn, idleIn, placeIn, deviceAt, deviceIn, masterLevel, deviceLevel, turnState, turnImage, servedOf, levelOn, statesAfter, busState, turns, filled, runState, events};
-ghost use Rattle.device.specs.Device.{waitingState};
+ghost use Rattle.bus.specs.Loops.{placeIn, askedOf, levelWhere, turnState, turnImage, fewerOf};
+ghost use Rattle.bus.specs.Loops.{levelOn, statesAfter, busState, turns, filled, runState, events};
+ghost use Rattle.device.specs.Device.{waitingState, sendsAsIs};
 
 // An event on the line: a slot in which the master sends a bit, a reset, or a program pulse.
 pub enum Event {
@@ -32,9 +34,6 @@ struct Place {
     start: usize,
     end: usize,
 }
-
-// The number of a run that is not refused.
-const ACCEPTED: u32 = 0;
 
 // The longest trace that is run.
 const MOST_EVENTS: usize = 32768;
@@ -53,52 +52,12 @@ fn event_of(byte: u8) -> Event
     }
 }
 
-// A ROM stage is the one of a device that waits.
-fn is_waiting(r: RomStage) -> bool
-    ensures { λ r′. ⌜ r′ ≡ isWaiting r ⌝ }
-{
-    match r {
-        RomStage::Waiting => true,
-        RomStage::Command { bits: _, value: _ } => false,
-        RomStage::Read { at: _ } => false,
-        RomStage::Match { at: _ } => false,
-        RomStage::Search { at: _, slot: _ } => false,
-    }
-}
-
-// A device waits for a reset.
-fn waits(state: LineState) -> bool
-    ensures { λ r. ⌜ r ≡ waitsIn (state .stage) ⌝ }
-{
-    let stage = state.stage;
-    match stage {
-        Stage::Rom(r) => is_waiting(r),
-        Stage::Memory(_) => false,
-    }
-}
-
-// A device that waits has no part in a slot: it is passed over before its place is looked for.
-fn is_idle(byte: u8, state: LineState) -> bool
-    ensures { λ r. ⌜ r ≡ idleIn byte state ⌝ }
-{
-    if byte < 2 {
-        return waits(state);
-    }
-    false
-}
-
-fn wide(byte: u8) -> usize
-    ensures { λ r. ⌜ r ≡ byte ⌝ }
-{
-    byte as usize
-}
-
-// The place of device i, found from its entry: that costs a constant. A device that the image does not have, or has no room for, has an
-// empty body and no kind.
+// The place of device i, found from its entry: that costs a constant. A device that the image does not have, or has no
+// room for, has an empty body and no kind.
 fn place_of(image: &[u8], i: usize) -> Place
     ensures { λ r. ⌜ r ≡ placeIn (now (image .entry)) i ⌝ }
 {
-    if i < wide(image::count(image)) {
+    if i < bits::wide(image::count(image)) {
         let entry = image::entry_at(image, i as u8);
         let kind = entry.kind;
         let start = entry.start;
@@ -114,108 +73,111 @@ fn place_of(image: &[u8], i: usize) -> Place
     }
 }
 
-// The level at which the master leaves the line.
-fn master_level(byte: u8) -> bool
-    ensures { λ r. ⌜ r ≡ masterLevel (eventOf byte) ⌝ }
+// How many of n devices are asked for the level of an event: all of them in a slot in which the master sends 1. Any
+// other level does not depend on what they send.
+fn asked(byte: u8, n: usize) -> usize
+    ensures { λ r. ⌜ r ≡ askedOf byte n ⌝ }
+{
+    if byte == 1 { n } else { 0 }
+}
+
+// Whether the line is high in a slot with one device more on it.
+fn high_with(high: bool, state: LineState) -> bool
+    ensures { λ r. ⌜ r ≡ (high && sendsAsIs state) ⌝ }
+{
+    high & state.sends_as_is()
+}
+
+// The level of an event on n devices; `high` says whether those that were asked leave the line high.
+fn level_of(byte: u8, n: usize, high: bool) -> bool
+    ensures { λ r. ⌜ r ≡ levelWhere (eventOf byte) n high ⌝ }
 {
     match event_of(byte) {
-        Event::Slot(sent) => sent,
-        Event::Reset => true,
+        Event::Slot(sent) => sent & high,
+        Event::Reset => n == 0,
         Event::Pulse => true,
     }
 }
 
-// The level at which a device leaves the line: in a slot what it sends, at a reset the 0 of its presence.
-fn device_level(byte: u8, state: LineState, kind: Kind, body: &[u8]) -> bool
-    ensures { λ r. ⌜ r ≡ deviceLevel (eventOf byte) (deviceWith kind (now (body .entry)) state) ⌝ }
+// Device i's part in a slot at a level. Inside a transfer a slot only shifts the register, and a device that waits has
+// no part in it: a body is looked for only in the last slot of a transfer. The next line state is worked out before the
+// body changes. A run's line states are in range from the first event on (proofs/Ranges.antt), so that they are taken
+// as they are.
+fn slot(image: &mut [u8], i: usize, state: LineState, level: bool) -> LineState
+    ensures { λ r. ⌜ (r ≡ turnState (now (image .entry)) i state 1 level) × (now (image .exit) ≡ turnImage (now (image .entry)) i state 1 level) ⌝ }
 {
-    match event_of(byte) {
-        Event::Slot(_) => state.sends(kind, body),
-        Event::Reset => false,
-        Event::Pulse => true,
+    if state.goes_on() {
+        return state.shifted(level);
     }
-}
-
-// The level of the line with device i on it as well. Where it is low already the device is not asked.
-fn level_with(image: &[u8], i: usize, state: LineState, byte: u8, level: bool) -> bool
-    ensures { λ r. ⌜ r ≡ (level && deviceLevel (eventOf byte) (deviceIn (now (image .entry)) i state)) ⌝ }
-{
-    if !level {
-        return false;
-    }
-    if is_idle(byte, state) {
-        return true;
-    }
-    let place = place_of(image, i);
-    let kind = place.kind;
-    let start = place.start;
-    let end = place.end;
-    device_level(byte, state, kind, &image[start..end])
-}
-
-// What an event at a level makes of a device's line state. The body is only read.
-fn device_state(byte: u8, level: bool, state: LineState, kind: Kind, body: &[u8]) -> LineState
-    ensures { λ r. ⌜ r ≡ nextState (eventOf byte) level (deviceWith kind (now (body .entry)) state) ⌝ }
-{
-    match event_of(byte) {
-        Event::Slot(_) => state.step(kind, body, level),
-        Event::Reset => LineState::at_reset(),
-        Event::Pulse => state.pulsed(kind, body),
-    }
-}
-
-// The same of device i, in the image.
-fn state_after(image: &[u8], i: usize, state: LineState, byte: u8, level: bool) -> LineState
-    ensures { λ r. ⌜ r ≡ turnState (now (image .entry)) i state byte level ⌝ }
-{
-    if is_idle(byte, state) {
+    if state.waits() {
         return state;
     }
     let place = place_of(image, i);
     let kind = place.kind;
     let start = place.start;
     let end = place.end;
-    device_state(byte, level, state, kind, &image[start..end])
+    let next = state.step_as_is(kind, &image[start..end], level);
+    state.write_as_is(kind, &mut image[start..end], level);
+    next
 }
 
-// What an event at a level makes of a device: its next line state, and its body. In a slot the device is given the level of the line.
-fn device_next(byte: u8, level: bool, state: LineState, kind: Kind, body: &mut [u8]) -> LineState
-    ensures { λ r. ⌜ (r ≡ nextState (eventOf byte) level (deviceWith kind (now (body .entry)) state)) × (now (body .exit) ≡ nextBody (eventOf byte) level (deviceWith kind (now (body .entry)) state)) ⌝ }
+// Device i's line state after a slot at a level; its body is only read.
+fn read_slot(image: &[u8], i: usize, state: LineState, level: bool) -> LineState
+    ensures { λ r. ⌜ r ≡ turnState (now (image .entry)) i state 1 level ⌝ }
 {
-    match event_of(byte) {
-        Event::Slot(_) => {
-            let next = state.step(kind, body, level);
-            state.write(kind, body, level);
-            next
-        }
-        Event::Reset => state.reset(kind, body),
-        Event::Pulse => state.pulse(kind, body),
+    if state.goes_on() {
+        return state.shifted(level);
     }
-}
-
-// The same of device i, in the image.
-fn turn(image: &mut [u8], i: usize, state: LineState, byte: u8, level: bool) -> LineState
-    ensures { λ r. ⌜ (r ≡ turnState (now (image .entry)) i state byte level) × (now (image .exit) ≡ turnImage (now (image .entry)) i state byte level) ⌝ }
-{
-    if is_idle(byte, state) {
+    if state.waits() {
         return state;
     }
     let place = place_of(image, i);
     let kind = place.kind;
     let start = place.start;
     let end = place.end;
-    device_next(byte, level, state, kind, &mut image[start..end])
+    state.step_as_is(kind, &image[start..end], level)
 }
 
-// How many devices have a line state: n, or the line states where there are fewer.
-fn served(image: &[u8], lines: usize) -> usize
-    ensures { λ r. ⌜ r ≡ servedOf (now (image .entry)) lines ⌝ }
+// Device i's part in an event that is not a slot: its level has no part in it.
+fn turn(image: &mut [u8], i: usize, state: LineState, byte: u8) -> LineState
+    requires { ⌜ 2 ≤ byte ⌝ }
+    ensures { λ r. ⌜ (r ≡ turnState (now (image .entry)) i state byte true) × (now (image .exit) ≡ turnImage (now (image .entry)) i state byte true) ⌝ }
 {
-    let n = wide(image::count(image));
-    if lines < n {
-        return lines;
+    let place = place_of(image, i);
+    let start = place.start;
+    let end = place.end;
+    if byte == 2 {
+        return state.reset_as_is(&mut image[start..end]);
     }
-    n
+    state.pulse_as_is(&mut image[start..end])
+}
+
+// Device i's line state after an event that is not a slot; its body is only read.
+fn read_turn(image: &[u8], i: usize, state: LineState, byte: u8) -> LineState
+    requires { ⌜ 2 ≤ byte ⌝ }
+    ensures { λ r. ⌜ r ≡ turnState (now (image .entry)) i state byte true ⌝ }
+{
+    if byte == 2 {
+        return LineState::at_reset();
+    }
+    let place = place_of(image, i);
+    let start = place.start;
+    let end = place.end;
+    state.pulsed_as_is(&image[start..end])
+}
+
+// How many devices an image has.
+pub fn device_count(image: &[u8]) -> usize
+    ensures { λ r. ⌜ r ≡ countOf (now (image .entry)) ⌝ }
+{
+    bits::wide(image::count(image))
+}
+
+// The smaller of two numbers: n devices have a line state, or as many as line states are lent where these are fewer.
+fn fewer(a: usize, b: usize) -> usize
+    ensures { λ r. ⌜ r ≡ fewerOf a b ⌝ }
+{
+    if a < b { a } else { b }
 }
 
 // ---- why a run is refused
@@ -262,16 +224,6 @@ fn has_pulse(trace: &[u8]) -> bool
     found
 }
 
-fn is_eprom(kind: Kind) -> bool
-    ensures { λ r. ⌜ r ≡ isEprom kind ⌝ }
-{
-    match kind {
-        Kind::Sram { size: _ } => false,
-        Kind::Eprom => true,
-        Kind::Unknown => false,
-    }
-}
-
 // Some device is not a DS1982.
 fn has_other_kind(image: &[u8]) -> bool
     ensures { λ r. ⌜ r ≡ someBelow (countOf (now (image .entry))) (λ i. not (isEprom (kindAt (now (image .entry)) i))) ⌝ }
@@ -281,7 +233,7 @@ fn has_other_kind(image: &[u8]) -> bool
     while i < n {
         let entry = image::entry_at(image, i);
         let kind = entry.kind;
-        if !is_eprom(kind) {
+        if !kind::is_eprom(kind) {
             return true;
         }
         i += 1;
@@ -306,7 +258,7 @@ fn lacks_room(image: &[u8], trace: &[u8], answers: usize, lines: usize) -> bool
     if answers < trace.len() {
         return true;
     }
-    lines < wide(image::count(image))
+    lines < device_count(image)
 }
 
 // Why a run is refused, 1 to 7; 0 where it is not.
@@ -331,46 +283,105 @@ fn refusal(image: &[u8], trace: &[u8], answers: usize, lines: usize) -> u32
 
 // ---- all devices
 
-// The level of an event, of any image and any line states. It reads only.
-pub fn level(image: &[u8], lines: &[LineState], byte: u8) -> bool
-    ensures { λ r. ⌜ r ≡ levelOn (now (image .entry)) (now (lines .entry)) byte ⌝ }
+// The level of an event on the first n devices, of any line states, which are taken as they are. It reads only.
+pub fn level(lines: &[LineState], n: usize, byte: u8) -> bool
+    ensures { λ r. ⌜ r ≡ levelOn (now (lines .entry)) n byte ⌝ }
 {
-    let n = served(image, lines.len());
-    let mut level = master_level(byte);
+    let served = fewer(n, lines.len());
+    let asked = asked(byte, served);
+    let mut high = true;
     let mut i: usize = 0;
-    while i < n {
+    while i < asked {
         let state = lines[i];
-        level = level_with(image, i, state, byte, level);
+        high = high_with(high, state);
         i = i + 1;
     }
-    level
+    level_of(byte, served, high)
 }
 
-// The line states after an event at a level, of any image and any line states. The image is only read.
-pub fn step_all(image: &[u8], lines: &mut [LineState], byte: u8, level: bool)
-    ensures { λ _. ⌜ now (lines .exit) ≡ statesAfter (now (image .entry)) (now (lines .entry)) byte level ⌝ }
+// Each of the first n devices, one after the other, in a slot at a level. No device's part depends on another's turn.
+// Slots have a loop of their own, as they are nearly all events, and each device's part in one is short.
+fn slot_all(image: &mut [u8], lines: &mut [LineState], n: usize, level: bool)
+    requires { ⌜ n ≤ length (now lines) ⌝ }
+    ensures { λ _. ⌜ busState (now (image .exit)) (now (lines .exit)) ≡ turns 1 level n (busState (now (image .entry)) (now (lines .entry))) ⌝ }
 {
-    let n = served(image, lines.len());
     let mut i: usize = 0;
     while i < n {
         let state = lines[i];
-        let next = state_after(image, i, state, byte, level);
+        if !state.waits() {
+            let next = slot(image, i, state, level);
+            lines[i] = next;
+        }
+        i = i + 1;
+    }
+}
+
+// Each of the first n devices in an event that is not a slot.
+fn turn_all(image: &mut [u8], lines: &mut [LineState], n: usize, byte: u8)
+    requires { ⌜ (n ≤ length (now lines)) × (2 ≤ byte) ⌝ }
+    ensures { λ _. ⌜ busState (now (image .exit)) (now (lines .exit)) ≡ turns byte true n (busState (now (image .entry)) (now (lines .entry))) ⌝ }
+{
+    let mut i: usize = 0;
+    while i < n {
+        let state = lines[i];
+        let next = turn(image, i, state, byte);
         lines[i] = next;
         i = i + 1;
     }
 }
 
-// Each of the first n devices, one after the other, at the level of the event. No device's part depends on another's turn.
-fn turn_all(image: &mut [u8], lines: &mut [LineState], n: usize, byte: u8, level: bool)
+// Each of the first n devices in an event at its level.
+fn step_event(image: &mut [u8], lines: &mut [LineState], n: usize, byte: u8, level: bool)
     requires { ⌜ n ≤ length (now lines) ⌝ }
     ensures { λ _. ⌜ busState (now (image .exit)) (now (lines .exit)) ≡ turns byte level n (busState (now (image .entry)) (now (lines .entry))) ⌝ }
 {
+    if byte < 2 {
+        slot_all(image, lines, n, level);
+    } else {
+        turn_all(image, lines, n, byte);
+    }
+}
+
+// The line states of the first n devices after a slot at a level. The image is only read.
+fn read_slot_all(image: &[u8], lines: &mut [LineState], n: usize, level: bool)
+    requires { ⌜ n ≤ length (now lines) ⌝ }
+    ensures { λ _. ⌜ now (lines .exit) ≡ statesAfter (now (image .entry)) (now (lines .entry)) n 1 level ⌝ }
+{
     let mut i: usize = 0;
     while i < n {
         let state = lines[i];
-        let next = turn(image, i, state, byte, level);
+        if !state.waits() {
+            let next = read_slot(image, i, state, level);
+            lines[i] = next;
+        }
+        i = i + 1;
+    }
+}
+
+// The same after an event that is not a slot.
+fn read_turn_all(image: &[u8], lines: &mut [LineState], n: usize, byte: u8)
+    requires { ⌜ (n ≤ length (now lines)) × (2 ≤ byte) ⌝ }
+    ensures { λ _. ⌜ now (lines .exit) ≡ statesAfter (now (image .entry)) (now (lines .entry)) n byte true ⌝ }
+{
+    let mut i: usize = 0;
+    while i < n {
+        let state = lines[i];
+        let next = read_turn(image, i, state, byte);
         lines[i] = next;
         i = i + 1;
+    }
+}
+
+// The line states of the first n devices after an event at a level, of any image and any line states. The image is only
+// read.
+pub fn step_all(image: &[u8], lines: &mut [LineState], n: usize, byte: u8, level: bool)
+    ensures { λ _. ⌜ now (lines .exit) ≡ statesAfter (now (image .entry)) (now (lines .entry)) n byte level ⌝ }
+{
+    let served = fewer(n, lines.len());
+    if byte < 2 {
+        read_slot_all(image, lines, served, level);
+    } else {
+        read_turn_all(image, lines, served, byte);
     }
 }
 
@@ -386,13 +397,13 @@ fn fill(lines: &mut [LineState], n: usize, state: LineState)
     }
 }
 
-// Every device of an image waits for a reset, of any image and any line states.
-pub fn wait_all(image: &[u8], lines: &mut [LineState])
-    ensures { λ _. ⌜ now (lines .exit) ≡ filled (servedOf (now (image .entry)) (length (now (lines .entry)))) waitingState (now (lines .entry)) ⌝ }
+// Each of the first n devices waits for a reset, of any line states.
+pub fn wait_all(lines: &mut [LineState], n: usize)
+    ensures { λ _. ⌜ now (lines .exit) ≡ filled (fewerOf n (length (now (lines .entry)))) waitingState (now (lines .entry)) ⌝ }
 {
-    let n = served(image, lines.len());
+    let served = fewer(n, lines.len());
     let waiting = LineState::waiting();
-    fill(lines, n, waiting);
+    fill(lines, served, waiting);
 }
 
 // Every event of a trace on n devices: its level is answered, then each device is given it.
@@ -403,9 +414,9 @@ fn run_events(image: &mut [u8], trace: &[u8], answers: &mut [u8], lines: &mut [L
     let mut k: usize = 0;
     while k < trace.len() {
         let byte = trace[k];
-        let line = level(image, lines, byte);
+        let line = level(lines, n, byte);
         answers[k] = line as u8;
-        turn_all(image, lines, n, byte, line);
+        step_event(image, lines, n, byte, line);
         k = k + 1;
     }
 }
@@ -416,7 +427,7 @@ pub fn run(image: &mut [u8], trace: &[u8], answers: &mut [u8], lines: &mut [Line
 {
     let number = refusal(image, trace, answers.len(), lines.len());
     if number == ACCEPTED {
-        let n = served(image, lines.len());
+        let n = device_count(image);
         let waiting = LineState::waiting();
         fill(lines, n, waiting);
         run_events(image, trace, answers, lines, n);

@@ -33,7 +33,7 @@ use Rattle.discovery.specs.Searched.{TraceOf, eventsFor, resetsFor, Sear
 use Rattle.discovery.proofs.Codes.{Code, listing, Lists, listing-lists, differ}
 use Rattle.discovery.proofs.Passes.{null, Runs, search-runs}
 use Rattle.discovery.proofs.Bits.{bytesOf}
-use Rattle.discovery.proofs.Devices.{active, stands, all-active, rom-unwritten}
+use Rattle.discovery.proofs.Devices.{active, stands, all-active, waiting-unwritten}
 use Rattle.discovery.proofs.Steps.{masterOf}
 use Rattle.discovery.proofs.Driven.{bodies, Driven, here, on, driven-bodies, driven-devices, driven-last, driven-codes, driven-events, driven-search, driven-first, driven-next, driven-end}
 use Rattle.discovery.proofs.Whole.{codesOf, traceOf, bytesAll, passes-drive}
@@ -157,7 +157,7 @@ drives-some image known bytes L lists runs n e =
     let size = waiting-all image known in
     let few = known .few in
     let count = count-found image known bytes L lists in
-    let ends = passes-drive ds (all-sized image known bytes) (omega arith) runs 0 [] noBits None waitingState (map active ds) refl tt (rom-unwritten Waiting) (all-active ds)
+    let ends = passes-drive ds (all-sized image known bytes) (omega arith) runs 0 [] noBits None waitingState (map active ds) refl tt waiting-unwritten (all-active ds)
     (λ d h. all-taken image known bytes d (lists .sound d h)) (omega arith) in
     record {
       master = ends .master;

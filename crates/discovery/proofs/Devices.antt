@@ -1,25 +1,27 @@
 -- The devices on the bus in a pass of a search, slot by slot. Assumes nothing.
 use Prim.Native.Nat.{ℕ, suc, _+_, _<_}
-use mathlib.Core.Path.{_≡_, refl, ap}
+use mathlib.Core.Path.{_≡_, refl, ap, _∙_}
 use mathlib.Core.Bool.{Bool, true, false, not, cond, _&&_, _||_, Bool·beq}
-use mathlib.Core.List.{List, [], _∷_, map}
+use mathlib.Core.List.{List, [], _∷_, _++_, map}
 use native.Mathlib.Numerals.{add-one}
 use lib.ListN.{length}
-use lib.Dec.{eqb, ltb}
+use lib.Dec.{ltb}
 use borrow.Author.Tests.{lt-ltb}
 use Rattle.bits.specs.Bit.{bitAt}
 use Rattle.kind.specs.declared.Kind.{Kind}
 use Rattle.kind.specs.Kind.{bodySize}
-use Rattle.line.specs.declared.SearchSlot.the-variants.{Bit, Complement, Direction}
 use Rattle.line.specs.declared.RomStage.{RomStage}
 use Rattle.line.specs.declared.RomStage.the-variants.{Waiting, Command, Search}
-use Rattle.line.specs.declared.Stage.{Stage}
 use Rattle.line.specs.declared.Stage.the-variants.{Rom}
-use Rattle.line.specs.Names.{waiting}
-use Rattle.rom.specs.Rom.{romRange, addressed, afterCommand, afterDirection, afterSearch, romStep, romSends}
+use Rattle.line.specs.declared.Transfer.{Transfer}
+use Rattle.line.specs.Transfers.{waiting}
+use Rattle.line.specs.Slots.{shiftedOver}
+use Rattle.bits.specs.Levels.{spelled}
+use Rattle.rom.specs.Rom.{searchBit, addressed, romCommand, afterSearch}
 use Rattle.device.specs.declared.LineState.{LineState}
-use Rattle.device.specs.Device.{lineState, waitingState, resetState, sendsOf, stateAfterSlot, stageRange, taken, stageReset, memoryReset, bodyAfterReset}
-use Rattle.device.proofs.Laws.{rom-write, rom-reset, rom-sends, rom-step, searching, search-sends-bit, search-after-bit, search-sends-complement, search-after-complement, search-sends-direction}
+use Rattle.device.specs.Device.{lineState, waitingState, resetState, sendsOf, stateAfterSlot, bodyAfterReset}
+use Rattle.device.proofs.Laws.{waiting-sends, waiting-step, rom-write, rom-reset, addressed-reset}
+use Rattle.device.proofs.Search.{searching, search-sends-bit, search-after-bit, search-sends-complement, search-after-complement, search-sends-direction, search-after-direction, commanded, command-sends, command-goes-on, command-ends}
 use Rattle.bus.specs.declared.Event.the-variants.{Slot, Reset}
 use Rattle.bus.specs.Bus.{Device, deviceWith, pullsLow, someLow, levelOf, nextState, nextBody, nextDevice}
 use Rattle.discovery.proofs.Codes.{Code, branch}
@@ -46,12 +48,17 @@ abbrev pub device : Member → Device
 device (active d) = d
 device (inactive d) = d
 
-abbrev pub standing : LineState → Member → Device
-standing s (active d) = inState s d
+-- the line states of those that take part, which their bodies give
+abbrev pub standing : (List ℕ → LineState) → Member → Device
+standing s (active d) = inState (s (d .body)) d
 standing s (inactive d) = inState waitingState d
 
+abbrev pub standsBy : (List ℕ → LineState) → List Member → List Device
+standsBy s ms = map (standing s) ms
+
+-- where they are all in one
 abbrev pub stands : LineState → List Member → List Device
-stands s ms = map (standing s) ms
+stands s ms = standsBy (λ body. s) ms
 
 -- of the devices that take part, the m bits that are left of their codes
 abbrev pub rests : ℕ → ℕ → List Member → List Code
@@ -61,52 +68,54 @@ rests k m (inactive d ∷ ms) = rests k m ms
 
 -- ---- a slot
 
-waiting-sends : (d : Device) → length (d .body) ≡ bodySize (d .kind) → sendsOf waitingState (d .kind) (d .body) ≡ true
-unfolding romRange romSends
-waiting-sends d h = rom-sends Waiting (d .kind) (d .body) h refl
+-- a line state in a ROM stage
+abbrev InRom : LineState → Type 0
+InRom s = (r : RomStage) × (s .transfer .stage ≡ Rom r)
 
-waiting-steps : (d : Device) (level : Bool) → length (d .body) ≡ bodySize (d .kind) → stateAfterSlot waitingState (d .kind) (d .body) level ≡ waitingState
-unfolding romRange romStep
-waiting-steps d level h = rom-step Waiting (d .kind) (d .body) h refl level
-
--- in a ROM stage only the line state changes
-slot-next : (r : RomStage) (sent level : Bool) (d : Device) (s : LineState) → stateAfterSlot (lineState (Rom r)) (d .kind) (d .body) level ≡ s
-    → nextDevice (Slot sent) level (inState (lineState (Rom r)) d) ≡ inState s d
+-- there only the line state changes
+slot-next : (s t : LineState) (sent level : Bool) (d : Device) → InRom s → stateAfterSlot s (d .kind) (d .body) level ≡ t
+    → nextDevice (Slot sent) level (inState s d) ≡ inState t d
 unfolding nextDevice nextState nextBody
-slot-next r sent level d s e = rw (rom-write r (d .kind) (d .body) level, e)
+slot-next s t sent level d r e = rw (rom-write s (r .0) (r .1) (d .kind) (d .body) level, e)
 
--- a slot that takes every device that takes part from one stage to another
-slot-all : (r : RomStage) (s : LineState) (sent level : Bool) (ms : List Member)
-    → ((d : Device) → length (d .body) ≡ bodySize (d .kind) → stateAfterSlot (lineState (Rom r)) (d .kind) (d .body) level ≡ s) → Sized (map device ms)
-    → map (nextDevice (Slot sent) level) (stands (lineState (Rom r)) ms) ≡ stands s ms
-slot-all r s sent level [] f z = refl
-slot-all r s sent level (active d ∷ ms) f z = let h = slot-next r sent level d s (f d (z .0)) in let t = slot-all r s sent level ms f (z .1) in cc
-slot-all r s sent level (inactive d ∷ ms) f z =
-    let h = slot-next Waiting sent level d waitingState (waiting-steps d level (z .0)) in
-    let t = slot-all r s sent level ms f (z .1) in
+waits-on : (sent level : Bool) (d : Device) → nextDevice (Slot sent) level (inState waitingState d) ≡ inState waitingState d
+waits-on sent level d = slot-next waitingState waitingState sent level d (Waiting, refl) (waiting-step (d .kind) (d .body) level)
+
+-- a slot that takes every device that takes part from one line state to another
+slot-all : (s t : List ℕ → LineState) (sent level : Bool) (ms : List Member) → ((body : List ℕ) → InRom (s body))
+    → ((d : Device) → length (d .body) ≡ bodySize (d .kind) → stateAfterSlot (s (d .body)) (d .kind) (d .body) level ≡ t (d .body))
+    → Sized (map device ms) → map (nextDevice (Slot sent) level) (standsBy s ms) ≡ standsBy t ms
+slot-all s t sent level [] r f z = refl
+slot-all s t sent level (active d ∷ ms) r f z =
+    let h = slot-next (s (d .body)) (t (d .body)) sent level d (r (d .body)) (f d (z .0)) in
+    let e = slot-all s t sent level ms r f (z .1) in
+    cc
+slot-all s t sent level (inactive d ∷ ms) r f z =
+    let h = waits-on sent level d in
+    let e = slot-all s t sent level ms r f (z .1) in
     cc
 
 -- the level, where no device that takes part sends a 0
 or-false : (a b : Bool) → a ≡ true → b ≡ false → (not a || b) ≡ false
 or-false a b p q = rw (p, q)
 
-none-low : (r : RomStage) (ms : List Member)
-    → ((d : Device) → length (d .body) ≡ bodySize (d .kind) → sendsOf (lineState (Rom r)) (d .kind) (d .body) ≡ true) → Sized (map device ms)
-    → someLow (stands (lineState (Rom r)) ms) ≡ false
+none-low : (s : List ℕ → LineState) (ms : List Member)
+    → ((d : Device) → length (d .body) ≡ bodySize (d .kind) → sendsOf (s (d .body)) (d .kind) (d .body) ≡ true) → Sized (map device ms)
+    → someLow (standsBy s ms) ≡ false
 unfolding someLow pullsLow
-none-low r [] f z = refl
-none-low r (active d ∷ ms) f z = or-false _ _ (f d (z .0)) (none-low r ms f (z .1))
-none-low r (inactive d ∷ ms) f z = or-false _ _ (waiting-sends d (z .0)) (none-low r ms f (z .1))
+none-low s [] f z = refl
+none-low s (active d ∷ ms) f z = or-false _ _ (f d (z .0)) (none-low s ms f (z .1))
+none-low s (inactive d ∷ ms) f z = or-false _ _ (waiting-sends (d .kind) (d .body)) (none-low s ms f (z .1))
 
 sent-alone : (sent : Bool) → not (not sent || false) ≡ sent
 sent-alone true = refl
 sent-alone false = refl
 
-slot-level : (r : RomStage) (sent : Bool) (ms : List Member)
-    → ((d : Device) → length (d .body) ≡ bodySize (d .kind) → sendsOf (lineState (Rom r)) (d .kind) (d .body) ≡ true) → Sized (map device ms)
-    → levelOf (Slot sent) (stands (lineState (Rom r)) ms) ≡ sent
+slot-level : (s : List ℕ → LineState) (sent : Bool) (ms : List Member)
+    → ((d : Device) → length (d .body) ≡ bodySize (d .kind) → sendsOf (s (d .body)) (d .kind) (d .body) ≡ true) → Sized (map device ms)
+    → levelOf (Slot sent) (standsBy s ms) ≡ sent
 unfolding levelOf
-slot-level r sent ms f z = rw (none-low r ms f z) (sent-alone sent)
+slot-level s sent ms f z = rw (none-low s ms f z) (sent-alone sent)
 
 -- ---- a bit
 
@@ -114,40 +123,64 @@ not-or : (a b c : Bool) → not b ≡ c → not (not a || b) ≡ (a && c)
 not-or true b c e = e
 not-or false b c e = refl
 
--- the two read slots
+-- a device at code bit k, after slots at these levels: none, one or two
+abbrev pub searches : ℕ → List Bool → List ℕ → LineState
+searches k levels body = searching k body levels
+
+-- the two read slots, the second after a first at level a; then the direction, after reads at levels a and b
 module _ (k m : ℕ) (low : k < 64) where
-  bits-low : (ms : List Member) → Sized (map device ms) → not (someLow (stands (searching k Bit) ms)) ≡ bits-level (rests k (suc m) ms)
+  bits-low : (ms : List Member) → Sized (map device ms) → not (someLow (standsBy (searches k []) ms)) ≡ bits-level (rests k (suc m) ms)
   unfolding someLow pullsLow
   bits-low [] z = refl
   bits-low (active d ∷ ms) z =
       rw (search-sends-bit k (d .kind) (d .body) (z .0) low)
-      (not-or (bitAt (d .body) k) (someLow (stands (searching k Bit) ms)) (bits-level (rests k (suc m) ms)) (bits-low ms (z .1)))
-  bits-low (inactive d ∷ ms) z = rw (waiting-sends d (z .0)) (bits-low ms (z .1))
+      (not-or (bitAt (d .body) k) (someLow (standsBy (searches k []) ms)) (bits-level (rests k (suc m) ms)) (bits-low ms (z .1)))
+  bits-low (inactive d ∷ ms) z = rw (waiting-sends (d .kind) (d .body)) (bits-low ms (z .1))
 
-  complements-low : (ms : List Member) → Sized (map device ms) → not (someLow (stands (searching k Complement) ms)) ≡ complements-level (rests k (suc m) ms)
+  complements-low : (a : Bool) (ms : List Member) → Sized (map device ms)
+      → not (someLow (standsBy (searches k (a ∷ [])) ms)) ≡ complements-level (rests k (suc m) ms)
   unfolding someLow pullsLow
-  complements-low [] z = refl
-  complements-low (active d ∷ ms) z =
-      rw (search-sends-complement k (d .kind) (d .body) (z .0) low)
-      (not-or (not (bitAt (d .body) k)) (someLow (stands (searching k Complement) ms)) (complements-level (rests k (suc m) ms)) (complements-low ms (z .1)))
-  complements-low (inactive d ∷ ms) z = rw (waiting-sends d (z .0)) (complements-low ms (z .1))
+  complements-low a [] z = refl
+  complements-low a (active d ∷ ms) z =
+      rw (search-sends-complement k (d .kind) (d .body) (z .0) low a)
+      (not-or (not (bitAt (d .body) k)) (someLow (standsBy (searches k (a ∷ [])) ms)) (complements-level (rests k (suc m) ms)) (complements-low a ms (z .1)))
+  complements-low a (inactive d ∷ ms) z = rw (waiting-sends (d .kind) (d .body)) (complements-low a ms (z .1))
 
-  pub bits-read : (ms : List Member) → Sized (map device ms) → levelOf (Slot true) (stands (searching k Bit) ms) ≡ bits-level (rests k (suc m) ms)
+  pub bits-read : (ms : List Member) → Sized (map device ms) → levelOf (Slot true) (standsBy (searches k []) ms) ≡ bits-level (rests k (suc m) ms)
   unfolding levelOf
   bits-read ms z = bits-low ms z
 
-  pub complements-read : (ms : List Member) → Sized (map device ms) → levelOf (Slot true) (stands (searching k Complement) ms) ≡ complements-level (rests k (suc m) ms)
+  pub complements-read : (a : Bool) (ms : List Member) → Sized (map device ms)
+      → levelOf (Slot true) (standsBy (searches k (a ∷ [])) ms) ≡ complements-level (rests k (suc m) ms)
   unfolding levelOf
-  complements-read ms z = complements-low ms z
+  complements-read a ms z = complements-low a ms z
 
-  pub bits-after : (level : Bool) (ms : List Member) → Sized (map device ms) → map (nextDevice (Slot true) level) (stands (searching k Bit) ms) ≡ stands (searching k Complement) ms
-  bits-after level ms z = slot-all (Search k Bit) (searching k Complement) true level ms (λ d h. search-after-bit k (d .kind) (d .body) h low level) z
+  bit-in-rom : (body : List ℕ) → InRom (searches k [] body)
+  unfolding shiftedOver searchBit
+  bit-in-rom body = (Search k, refl)
 
-  pub complements-after : (level : Bool) (ms : List Member) → Sized (map device ms) → map (nextDevice (Slot true) level) (stands (searching k Complement) ms) ≡ stands (searching k Direction) ms
-  complements-after level ms z = slot-all (Search k Complement) (searching k Direction) true level ms (λ d h. search-after-complement k (d .kind) (d .body) h low level) z
+  complement-in-rom : (a : Bool) (body : List ℕ) → InRom (searches k (a ∷ []) body)
+  unfolding shiftedOver searchBit
+  complement-in-rom a body = (Search k, refl)
 
-  pub direction-level : (sent : Bool) (ms : List Member) → Sized (map device ms) → levelOf (Slot sent) (stands (searching k Direction) ms) ≡ sent
-  direction-level sent ms z = slot-level (Search k Direction) sent ms (λ d h. search-sends-direction k (d .kind) (d .body) h low) z
+  pub direction-in-rom : (a b : Bool) (body : List ℕ) → InRom (searches k (a ∷ b ∷ []) body)
+  unfolding shiftedOver searchBit
+  direction-in-rom a b body = (Search k, refl)
+
+  pub bits-after : (a : Bool) (ms : List Member) → Sized (map device ms)
+      → map (nextDevice (Slot true) a) (standsBy (searches k []) ms) ≡ standsBy (searches k (a ∷ [])) ms
+  bits-after a ms z =
+      slot-all (searches k []) (searches k (a ∷ [])) true a ms bit-in-rom (λ d h. search-after-bit k (d .kind) (d .body) h low a) z
+
+  pub complements-after : (a b : Bool) (ms : List Member) → Sized (map device ms)
+      → map (nextDevice (Slot true) b) (standsBy (searches k (a ∷ [])) ms) ≡ standsBy (searches k (a ∷ b ∷ [])) ms
+  complements-after a b ms z =
+      slot-all (searches k (a ∷ [])) (searches k (a ∷ b ∷ [])) true b ms (complement-in-rom a)
+      (λ d h. search-after-complement k (d .kind) (d .body) h low a b) z
+
+  pub direction-level : (a b sent : Bool) (ms : List Member) → Sized (map device ms) → levelOf (Slot sent) (standsBy (searches k (a ∷ b ∷ [])) ms) ≡ sent
+  direction-level a b sent ms z =
+      slot-level (searches k (a ∷ b ∷ [])) sent ms (λ d h. search-sends-direction k (d .kind) (d .body) h low a b) z
 
 -- the direction: a device whose bit it is goes on
 abbrev pub moved : ℕ → Bool → Member → Member
@@ -155,36 +188,48 @@ moved k bit (active d) = cond (Bool·beq (bitAt (d .body) k) bit) (active d) (in
 moved k bit (inactive d) = inactive d
 
 -- to its next bit, or after the last to the memory command
-abbrev pub nextBit : ℕ → LineState
-nextBit k = lineState (cond (ltb k 63) (Rom (Search (k + 1) Bit)) addressed)
+abbrev pub nextBit : ℕ → List ℕ → LineState
+nextBit k body = lineState (cond (ltb k 63) (searchBit (k + 1) body) addressed)
 
-direction-steps : (k : ℕ) (bit : Bool) (d : Device) → k < 64 → length (d .body) ≡ bodySize (d .kind)
-    → stateAfterSlot (searching k Direction) (d .kind) (d .body) bit ≡ lineState (cond (Bool·beq (bitAt (d .body) k) bit) (cond (ltb k 63) (Rom (Search (k + 1) Bit)) addressed) waiting)
-unfolding romRange romStep afterSearch afterDirection
-direction-steps k bit d low h = rom-step (Search k Direction) (d .kind) (d .body) h (lt-ltb k 64 low) bit
+choose-member : (same : Bool) (t : Transfer) (d : Device)
+    → inState (lineState (cond same t waiting)) d ≡ standing (λ body. lineState t) (cond same (active d) (inactive d))
+choose-member true t d = refl
+choose-member false t d = refl
 
-choose-member : (same : Bool) (s : Stage) (d : Device) → inState (lineState (cond same s waiting)) d ≡ standing (lineState s) (cond same (active d) (inactive d))
-choose-member true s d = refl
-choose-member false s d = refl
+same-standing : (same : Bool) (s : List ℕ → LineState) (d : Device)
+    → standing (λ body. s (d .body)) (cond same (active d) (inactive d)) ≡ standing s (cond same (active d) (inactive d))
+same-standing true s d = refl
+same-standing false s d = refl
 
-pub direction-after : (k : ℕ) (bit : Bool) (ms : List Member) → k < 64 → Sized (map device ms)
-    → map (nextDevice (Slot bit) bit) (stands (searching k Direction) ms) ≡ stands (nextBit k) (map (moved k bit) ms)
-direction-after k bit [] low z = refl
-direction-after k bit (active d ∷ ms) low z =
-    let h = slot-next (Search k Direction) bit bit d _ (direction-steps k bit d low (z .0)) in
-    let c = choose-member (Bool·beq (bitAt (d .body) k) bit) (cond (ltb k 63) (Rom (Search (k + 1) Bit)) addressed) d in
-    let t = direction-after k bit ms low (z .1) in
+direction-next : (k : ℕ) (a b bit : Bool) (d : Device) → k < 64 → length (d .body) ≡ bodySize (d .kind)
+    → nextDevice (Slot bit) bit (inState (searches k (a ∷ b ∷ []) (d .body)) d) ≡ standing (nextBit k) (moved k bit (active d))
+unfolding afterSearch
+direction-next k a b bit d low z =
+    let same = Bool·beq (bitAt (d .body) k) bit in
+    slot-next (searches k (a ∷ b ∷ []) (d .body)) _ bit bit d (direction-in-rom k 0 low a b (d .body)) (search-after-direction k (d .kind) (d .body) z low a b bit)
+    ∙ choose-member same (cond (ltb k 63) (searchBit (k + 1) (d .body)) addressed) d
+    ∙ same-standing same (nextBit k) d
+
+pub direction-after : (k : ℕ) (a b bit : Bool) (ms : List Member) → k < 64 → Sized (map device ms)
+    → map (nextDevice (Slot bit) bit) (standsBy (searches k (a ∷ b ∷ [])) ms) ≡ standsBy (nextBit k) (map (moved k bit) ms)
+direction-after k a b bit [] low z = refl
+direction-after k a b bit (active d ∷ ms) low z =
+    let h = direction-next k a b bit d low (z .0) in
+    let t = direction-after k a b bit ms low (z .1) in
     cc
-direction-after k bit (inactive d ∷ ms) low z =
-    let h = slot-next Waiting bit bit d waitingState (waiting-steps d bit (z .0)) in
-    let t = direction-after k bit ms low (z .1) in
+direction-after k a b bit (inactive d ∷ ms) low z =
+    let h = waits-on bit bit d in
+    let t = direction-after k a b bit ms low (z .1) in
     cc
 
-pub next-bit : (k : ℕ) → k < 63 → nextBit k ≡ searching (suc k) Bit
-next-bit k h = rw (lt-ltb k 63 h, add-one)
+pub next-bit : (k : ℕ) (ms : List Member) → k < 63 → standsBy (nextBit k) ms ≡ standsBy (searches (suc k) []) ms
+unfolding shiftedOver
+next-bit k ms h =
+    ap (λ (t : Bool). standsBy (λ body. lineState (cond t (searchBit (k + 1) body) addressed)) ms) (lt-ltb k 63 h)
+    ∙ ap (λ (j : ℕ). standsBy (λ body. lineState (searchBit j body)) ms) (add-one k)
 
-pub last-bit : nextBit 63 ≡ lineState addressed
-last-bit = refl
+pub last-bit : (ms : List Member) → standsBy (nextBit 63) ms ≡ stands (lineState addressed) ms
+last-bit ms = refl
 
 -- the same devices are there
 pub moved-devices : (k : ℕ) (bit : Bool) (ms : List Member) → map device (map (moved k bit) ms) ≡ map device ms
@@ -217,22 +262,17 @@ moved-rests k m false (inactive d ∷ ms) = moved-rests k m false ms
 abbrev pub Unwritten : LineState → Type 0
 Unwritten s = (kind : Kind) (body : List ℕ) → bodyAfterReset s kind body ≡ body
 
-pub rom-unwritten : (r : RomStage) → Unwritten (lineState (Rom r))
-rom-unwritten r kind body = rom-reset r kind body
+pub waiting-unwritten : Unwritten waitingState
+waiting-unwritten kind body = rom-reset waitingState Waiting refl kind body
 
 pub addressed-unwritten : Unwritten (lineState addressed)
-unfolding bodyAfterReset taken stageReset memoryReset
-addressed-unwritten kind body = choose (eqb (length body) (bodySize kind) && stageRange addressed kind)
-  where
-    choose : (t : Bool) → stageReset (cond t addressed waiting) body ≡ body
-    choose true = refl
-    choose false = refl
+addressed-unwritten kind body = addressed-reset kind body
 
 pub reset-all : (s : LineState) (level : Bool) (ms : List Member) → Unwritten s → map (nextDevice Reset level) (stands s ms) ≡ stands resetState (map active (map device ms))
 unfolding nextDevice nextState nextBody
 reset-all s level [] u = refl
 reset-all s level (active d ∷ ms) u = let h = u (d .kind) (d .body) in let t = reset-all s level ms u in cc
-reset-all s level (inactive d ∷ ms) u = let h = rom-unwritten Waiting (d .kind) (d .body) in let t = reset-all s level ms u in cc
+reset-all s level (inactive d ∷ ms) u = let h = waiting-unwritten (d .kind) (d .body) in let t = reset-all s level ms u in cc
 
 pub all-active : (ds : List Device) → map device (map active ds) ≡ ds
 all-active [] = refl
@@ -242,16 +282,30 @@ pub all-rests : (k m : ℕ) (ds : List Device) → rests k m (map active ds) ≡
 all-rests k m [] = refl
 all-rests k m (d ∷ ds) = ap (λ (cs : List Code). bitsFrom (d .body) k m ∷ cs) (all-rests k m ds)
 
--- a bit of the command
-abbrev pub commanded : ℕ → ℕ → LineState
-commanded bits value = lineState (Rom (Command bits value))
+-- a bit of the command, of which these levels were received
+pub command-level : (levels : List Bool) (sent : Bool) (ms : List Member) → length levels < 8 → Sized (map device ms)
+    → levelOf (Slot sent) (stands (commanded levels) ms) ≡ sent
+command-level levels sent ms low z = slot-level (λ body. commanded levels) sent ms (λ d h. command-sends levels (d .kind) (d .body) h low) z
 
-pub command-level : (bits value : ℕ) (sent : Bool) (ms : List Member) → bits < 8 → Sized (map device ms) → levelOf (Slot sent) (stands (commanded bits value) ms) ≡ sent
-unfolding romRange romSends
-command-level bits value sent ms low z = slot-level (Command bits value) sent ms (λ d h. rom-sends (Command bits value) (d .kind) (d .body) h (lt-ltb bits 8 low)) z
+command-stage : (levels : List Bool) (t : Transfer) → t .stage ≡ Rom Command → shiftedOver t levels .stage ≡ Rom Command
+unfolding shiftedOver
+command-stage [] t e = e
+command-stage (level ∷ levels) t e = command-stage levels _ e
 
-pub command-after : (bits value : ℕ) (sent : Bool) (ms : List Member) → bits < 8 → Sized (map device ms)
-    → map (nextDevice (Slot sent) sent) (stands (commanded bits value) ms) ≡ stands (lineState (afterCommand bits value sent)) ms
-unfolding romRange romStep
-command-after bits value sent ms low z =
-    slot-all (Command bits value) (lineState (afterCommand bits value sent)) sent sent ms (λ d h. rom-step (Command bits value) (d .kind) (d .body) h (lt-ltb bits 8 low) sent) z
+command-in-rom : (levels : List Bool) → InRom (commanded levels)
+command-in-rom levels = (Command, command-stage levels _ refl)
+
+-- up to the seventh
+pub command-after : (levels : List Bool) (sent : Bool) (ms : List Member) → length levels < 7 → Sized (map device ms)
+    → map (nextDevice (Slot sent) sent) (stands (commanded levels) ms) ≡ stands (commanded (levels ++ sent ∷ [])) ms
+command-after levels sent ms low z =
+    slot-all (λ body. commanded levels) (λ body. commanded (levels ++ sent ∷ [])) sent sent ms (λ body. command-in-rom levels)
+    (λ d h. command-goes-on levels (d .kind) (d .body) h sent low) z
+
+-- and the eighth
+pub command-done : (levels : List Bool) (sent : Bool) (ms : List Member) → length levels ≡ 7 → Sized (map device ms)
+    → map (nextDevice (Slot sent) sent) (stands (commanded levels) ms)
+    ≡ standsBy (λ body. lineState (romCommand (spelled (levels ++ sent ∷ [])) body)) ms
+command-done levels sent ms last z =
+    slot-all (λ body. commanded levels) (λ body. lineState (romCommand (spelled (levels ++ sent ∷ [])) body)) sent sent ms (λ body. command-in-rom levels)
+    (λ d h. command-ends levels (d .kind) (d .body) h sent last) z

@@ -2,22 +2,25 @@
 -- need only read it. For the loop of a search. Assumes nothing.
 use Prim.Native.Nat.{ℕ, suc, _+_, _-_, _<_, _≤_}
 use mathlib.Core.Path.{_≡_, refl, sym, ap, _∙_, subst}
-use mathlib.Core.Bool.{Bool}
+use mathlib.Core.Bool.{Bool, true, false, cond}
 use mathlib.Core.List.{List, [], _∷_, _++_, map, append-nil, append-assoc}
 use native.Mathlib.Omega.{arith}
-use lib.ListN.{length, take, replicate, length-append, length-map, length-replicate, length-take}
+use lib.ListN.{length, replicate, length-append, length-map, length-replicate}
 use borrow.Author.Tests.{lt-ltb, le-leb}
 use Rattle.kind.specs.Kind.{bodySize}
 use Rattle.image.specs.Image.{countOf, offsetAt, kindAt, bodyAt}
 use Rattle.image.specs.Refusal.{imageRefusal}
-use Rattle.image.proofs.Accepted.{Known, inside}
+use Rattle.image.proofs.Accepted.{Known, accepted-known, inside}
 use Rattle.device.specs.declared.LineState.{LineState}
 use Rattle.device.specs.Device.{waitingState}
 use Rattle.bus.specs.declared.Event.{Event}
 use Rattle.bits.specs.Bit.{levelByte}
 use Rattle.bus.specs.Bus.{Device, deviceWith, eventOf, levelOf, nextState, nextBody, nextDevice}
 use Rattle.bus.specs.Run.{devicesFrom, waitingDevices}
-use Rattle.bus.specs.Loops.{placeIn, deviceAt, deviceIn, turnState, devicesIn, levelOn}
+use Rattle.bus.specs.Loops.{stateAsItIs, idleIn, placeIn, deviceAt, deviceIn, turnState, turnedFrom, levelAsItIs}
+use Rattle.bus.proofs.Ranges.{InRange, AllIn, all-next-in, as-it-is-state, level-as-it-is}
+use Rattle.bus.proofs.Idle.{idle-state}
+use Rattle.bus.proofs.Shown.{waiting-in, devices-states}
 use Rattle.master.specs.declared.Master.{Master}
 use Rattle.master.specs.Master.{event, end, says, afterLevel, nextOf}
 use Rattle.master.specs.Drive.{started, codeCompleted}
@@ -35,6 +38,7 @@ pub record Going (image : List ℕ) (m : Master) (lines : List LineState) (trace
   pub sent : trace ++ events ≡ searchOf image .trace
   pub written : codes ++ found ≡ searchOf image .codes
   pub each : length lines ≡ countOf image
+  pub ranged : AllIn (devicesFrom image 0 lines)
 
 pub going-start : (image : List ℕ) → Bytes image → imageRefusal image ≡ 0 → Going image started (replicate (countOf image) waitingState) [] []
 unfolding waitingDevices
@@ -45,6 +49,7 @@ going-start image bytes ok = record {
   sent = refl;
   written = refl;
   each = length-replicate (countOf image) waitingState;
+  ranged = waiting-in image (accepted-known image ok);
 }
 
 -- devices whose bodies an event leaves as they were are those of the image in their next line states
@@ -98,21 +103,23 @@ module _ (image : List ℕ) (searched : Searched image (searchOf image)) {m : Ma
   going-on e g h =
       let ds = devicesFrom image 0 lines in
       let r = driven-goes e 0 (g .driven) (searched .ended) h in
+      let onward : map (nextDevice (eventOf e) (levelIn image lines e)) ds ≡ devicesFrom image 0 (linesAfter image lines e) =
+      lines-next image 0 lines (eventOf e) (levelIn image lines e) (rw (r .is-level) (r .same)) in
       let next : nextOf m (levelByte (levelIn image lines e)) ≡ afterLevel m (levelIn image lines e) = next-is m (levelIn image lines e) in
-      let same : bodies (map (nextDevice (eventOf e) (levelIn image lines e)) ds) ≡ bodies ds = rw (r .is-level) (r .same) in
       let step : Driven (afterLevel m (levelIn image lines e)) (map (nextDevice (eventOf e) (levelIn image lines e)) ds) (r .events) (r .codes) (searchOf image .master) (searchOf image .devices) = rw (r .is-level) (r .rest) in
       record {
         events = r .events;
         found = r .codes;
         driven = rw next (subst (λ (es : List Device). Driven (afterLevel m (levelIn image lines e)) es (r .events) (r .codes) (searchOf image .master) (searchOf image .devices))
-            (lines-next image 0 lines (eventOf e) (levelIn image lines e) same) step);
+            onward step);
         sent = append-assoc trace (e ∷ []) (r .events) ∙ ap (λ (t : List ℕ). trace ++ t) (sym (r .trace-is)) ∙ g .sent;
         written = rw next (append-assoc codes (codeCompleted (m .passes) (afterLevel m (levelIn image lines e))) (r .codes)
             ∙ ap (λ (t : List ℕ). codes ++ t) (ap (λ (b : Bool). codeCompleted (m .passes) (afterLevel m b) ++ r .codes) (r .is-level) ∙ sym (r .codes-are)) ∙ g .written);
         each = simp length-map (devices-size image 0 lines ∙ g .each);
+        ranged = subst AllIn onward (all-next-in (eventOf e) (levelIn image lines e) ds (g .ranged));
       }
 
--- ---- the functions of the bus, on an accepted image
+-- ---- the functions of the bus, on devices in range of an accepted image
 
 module _ (image : List ℕ) (known : Known image) where
   -- a device that the bus finds by its place is the image's
@@ -122,18 +129,29 @@ module _ (image : List ℕ) (known : Known image) where
       let size : offsetAt image i + bodySize (kindAt image i) - offsetAt image i ≡ bodySize (kindAt image i) = omega arith in
       rw (lt-ltb i (countOf image) h, le-leb (offsetAt image i + bodySize (kindAt image i)) (length image) (inside image known i h)) (rw size)
 
-  -- so one device's turn is its part of `linesAfter`
-  pub turn-in : (i : ℕ) (state : LineState) (e : ℕ) (level : Bool) → i < countOf image
+  -- so its turn gives its next line state
+  turn-in : (i : ℕ) (state : LineState) (e : ℕ) (level : Bool) → i < countOf image → InRange (deviceWith (kindAt image i) (bodyAt image i) state)
       → turnState image i state e level ≡ nextState (eventOf e) level (deviceWith (kindAt image i) (bodyAt image i) state)
   unfolding turnState
-  turn-in i state e level h = ap (nextState (eventOf e) level) (device-in i state h)
+  turn-in i state e level h ranged = choose (idleIn e state) refl
+    where
+      choose : (b : Bool) → idleIn e state ≡ b
+          → cond b state (stateAsItIs (eventOf e) level (deviceIn image i state)) ≡ nextState (eventOf e) level (deviceWith (kindAt image i) (bodyAt image i) state)
+      choose true idle = idle-state e (deviceWith (kindAt image i) (bodyAt image i) state) ranged idle level
+      choose false awake =
+          ap (stateAsItIs (eventOf e) level) (device-in i state h)
+          ∙ as-it-is-state (deviceWith (kindAt image i) (bodyAt image i) state) ranged (eventOf e) level
 
-  devices-in : (i : ℕ) (lines : List LineState) → i + length lines ≤ countOf image → devicesIn image i lines ≡ devicesFrom image i lines
-  unfolding devicesIn devicesFrom
-  devices-in i [] h = refl
-  devices-in i (state ∷ lines) h = let d = device-in i state (omega arith) in let t = devices-in (suc i) lines (omega arith) in cc
+  pub turned-in : (i : ℕ) (lines : List LineState) (e : ℕ) (level : Bool) → i + length lines ≤ countOf image → AllIn (devicesFrom image i lines)
+      → turnedFrom image i lines e level ≡ map (nextState (eventOf e) level) (devicesFrom image i lines)
+  unfolding turnedFrom devicesFrom
+  turned-in i [] e level h ranged = refl
+  turned-in i (state ∷ lines) e level h ranged =
+      let one = turn-in i state e level (omega arith) (ranged .0) in
+      let rest = turned-in (suc i) lines e level (omega arith) (ranged .1) in
+      λ j. one j ∷ rest j
 
-  -- and the level of the bus is that of the first n line states
-  pub level-in : (lines : List LineState) (e : ℕ) → levelOn image lines e ≡ levelIn image (take (countOf image) lines) e
-  unfolding levelOn
-  level-in lines e = ap (levelOf (eventOf e)) (devices-in 0 (take (countOf image) lines) (simp length-take (omega arith)))
+  -- and the level that their line states have is that of the devices
+  pub level-in : (lines : List LineState) (e : ℕ) → AllIn (devicesFrom image 0 lines) → levelAsItIs (eventOf e) lines ≡ levelIn image lines e
+  level-in lines e ranged =
+      ap (levelAsItIs (eventOf e)) (sym (devices-states image known 0 lines)) ∙ level-as-it-is (eventOf e) (devicesFrom image 0 lines) ranged

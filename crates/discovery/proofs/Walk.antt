@@ -6,13 +6,14 @@ use mathlib.Core.List.{List, [], _∷_, _++_, map, append-nil}
 use native.Mathlib.Omega.{arith}
 use lib.ListN.{length, getD}
 use lib.Dec.{eqb, ltb, leb·zero, leb·suc-zero, leb·suc-suc, eqb·suc-zero, eqb·suc-suc}
-use Rattle.bits.specs.Bit.{bitOf, bitAt, putBit, shiftIn}
+use Rattle.bits.specs.Bit.{bitOf, bitAt, putBit, levelByte}
 use Rattle.bits.specs.Crc.{registered}
-use Rattle.line.specs.declared.SearchSlot.the-variants.{Bit}
-use Rattle.rom.specs.Rom.{addressed, romCommand, afterCommand}
+use Rattle.bits.specs.Levels.{spelled}
+use Rattle.line.specs.Slots.{shiftedOver}
+use Rattle.rom.specs.Rom.{addressed, romCommand}
 use Rattle.device.specs.declared.LineState.{LineState}
 use Rattle.device.specs.Device.{lineState, resetState}
-use Rattle.device.proofs.Laws.{searching}
+use Rattle.device.proofs.Search.{commanded}
 use Rattle.bus.specs.declared.Event.{Event}
 use Rattle.bus.specs.declared.Event.the-variants as events
 use Rattle.bus.specs.Bus.{Device, eventOf, presence, levelOf, nextDevice}
@@ -26,7 +27,9 @@ use Rattle.discovery.specs.Words.{putBits}
 use Rattle.discovery.proofs.Codes.{Code, branch, differ}
 use Rattle.discovery.proofs.Passes.{Pass, none-answers, found, bits-level, complements-level, direction, leaves-open, put, checked, head-or-0, tail, directions-to, directions-of, pass}
 use Rattle.discovery.proofs.Bits.{bitsFrom}
-use Rattle.discovery.proofs.Devices.{Sized, Member, active, inactive, device, stands, rests, bits-read, complements-read, bits-after, complements-after, direction-level, moved, nextBit, direction-after, next-bit, last-bit, moved-devices, moved-rests, Unwritten, reset-all, all-active, all-rests, commanded, command-level, command-after}
+use Rattle.discovery.proofs.Devices.{Sized, Member, active, inactive, device, standsBy, stands, searches, rests, bits-read, complements-read, bits-after, complements-after}
+use Rattle.discovery.proofs.Devices.{direction-level, moved, nextBit, direction-after, next-bit, last-bit, moved-devices, moved-rests, Unwritten, reset-all, all-active, all-rests}
+use Rattle.discovery.proofs.Devices.{command-level, command-after, command-done}
 use Rattle.discovery.proofs.Steps.{masterOf, marked, reset-step, command-step, command-last, first-step, second-step, direction-step, completes, none-completed, one-completed}
 use Rattle.discovery.proofs.Driven.{bodies, Driven, here, on}
 
@@ -121,18 +124,18 @@ on-slot {ds = ds} {es = es} {level = level} bit s l a w b c p =
     on s (ap (λ (e : Event). levelOf e ds) (slot-event bit) ∙ l) a (ap (λ (e : Event). map (nextDevice e level) ds) (slot-event bit) ∙ w) b c p
 
 -- the line state is no part of a body, so the same devices in other line states have the same bodies
-standing-bodies : (s : LineState) (ms : List Member) → bodies (stands s ms) ≡ bodies (map device ms)
+standing-bodies : (s : List ℕ → LineState) (ms : List Member) → bodies (standsBy s ms) ≡ bodies (map device ms)
 standing-bodies s [] = refl
 standing-bodies s (active d ∷ ms) = ap (λ (bs : List (List ℕ)). d .body ∷ bs) (standing-bodies s ms)
 standing-bodies s (inactive d ∷ ms) = ap (λ (bs : List (List ℕ)). d .body ∷ bs) (standing-bodies s ms)
 
-same-bodies : (s t : LineState) (ms : List Member) → bodies (stands s ms) ≡ bodies (stands t ms)
+same-bodies : (s t : List ℕ → LineState) (ms : List Member) → bodies (standsBy s ms) ≡ bodies (standsBy t ms)
 same-bodies s t ms = standing-bodies s ms ∙ sym (standing-bodies t ms)
 
-moved-bodies : (k : ℕ) (bit : Bool) (s t : LineState) (ms : List Member) → bodies (stands s (map (moved k bit) ms)) ≡ bodies (stands t ms)
+moved-bodies : (k : ℕ) (bit : Bool) (s t : List ℕ → LineState) (ms : List Member) → bodies (standsBy s (map (moved k bit) ms)) ≡ bodies (standsBy t ms)
 moved-bodies k bit s t ms = standing-bodies s (map (moved k bit) ms) ∙ ap bodies (moved-devices k bit ms) ∙ sym (standing-bodies t ms)
 
-active-bodies : (s t : LineState) (ms : List Member) → bodies (stands s (map active (map device ms))) ≡ bodies (stands t ms)
+active-bodies : (s t : List ℕ → LineState) (ms : List Member) → bodies (standsBy s (map active (map device ms))) ≡ bodies (standsBy t ms)
 active-bodies s t ms = standing-bodies s (map active (map device ms)) ∙ ap bodies (all-active (map device ms)) ∙ sym (standing-bodies t ms)
 
 -- ---- the bits
@@ -145,19 +148,27 @@ module _ (p : ℕ) (few : p < 64) (c : Code) (previous : List ℕ) (last : Discr
       → d ≡ sent (rests k (suc m) ms) (atDiscrepancy last previous k)
       → afterLevel (masterOf (Direction k d) p (putBit code k d) (marked (opens (rests k (suc m) ms) d) k opened) previous last) d ≡ n
       → codeCompleted p n ≡ done
-      → Driven n (stands (nextBit k) (map (moved k d) ms)) trace codes r fs
-      → Driven (masterOf (FirstRead k) p code opened previous last) (stands (searching k Bit) ms) (readSlot ∷ readSlot ∷ slot d ∷ trace) (done ++ codes) r fs
+      → Driven n (standsBy (nextBit k) (map (moved k d) ms)) trace codes r fs
+      → Driven (masterOf (FirstRead k) p code opened previous last) (standsBy (searches k []) ms) (readSlot ∷ readSlot ∷ slot d ∷ trace) (done ++ codes) r fs
   unfolding said answerIn slot
   bit k m ms code opened d low z nc de a done go =
-      on-slot true refl (bits-read k m low ms z) (first-step p code opened previous last few k low _) (bits-after k m low _ ms z) (same-bodies _ _ ms) (none-completed p _ _ _ _ _)
-      (on-slot true refl (complements-read k m low ms z) (second-step p code opened previous last few k low _ _ d nc de) (complements-after k m low _ ms z) (same-bodies _ _ ms) (none-completed p _ _ _ _ _)
-      (on-slot d refl (direction-level k m low d ms z) a (direction-after k d ms low z) (moved-bodies k d _ _ ms) done go))
+      let read = bits-level (rests k (suc m) ms) in
+      let complement = complements-level (rests k (suc m) ms) in
+      let at-bit = searches k [] in
+      let at-complement = searches k (read ∷ []) in
+      let at-direction = searches k (read ∷ complement ∷ []) in
+      on-slot true refl (bits-read k m low ms z) (first-step p code opened previous last few k low _) (bits-after k m low read ms z)
+      (same-bodies at-complement at-bit ms) (none-completed p _ _ _ _ _)
+      (on-slot true refl (complements-read k m low read ms z) (second-step p code opened previous last few k low _ _ d nc de)
+      (complements-after k m low read complement ms z) (same-bodies at-direction at-complement ms) (none-completed p _ _ _ _ _)
+      (on-slot d refl (direction-level k m low read complement d ms z) a (direction-after k read complement d ms low z)
+      (moved-bodies k d (nextBit k) at-direction ms) done go))
 
   -- the bits that are left of a pass, by which the code d is found, with h its last open discrepancy from bit k on
   abbrev Rest : ℕ → List Member → List ℕ → Discrepancy → Code → Discrepancy → Type 0
   Rest k ms code opened d h =
       (ns : List Member)
-      × Driven (masterOf (FirstRead k) p code opened previous last) (stands (searching k Bit) ms) (bitEvents d) (putBits code k d)
+      × Driven (masterOf (FirstRead k) p code opened previous last) (standsBy (searches k []) ms) (bitEvents d) (putBits code k d)
       (masterOf (afterPass (merged k h opened) (p + 1)) (p + 1) noBits None (putBits code k d) (merged k h opened)) (stands (lineState addressed) ns)
       × (map device ns ≡ map device ms)
 
@@ -170,16 +181,16 @@ module _ (p : ℕ) (few : p < 64) (c : Code) (previous : List ℕ) (last : Discr
   unfolding putBits
   rest-last k ms code opened x q h d e z nc xe qe de me r =
       let good : registered (putBit code k x) ≡ true = rw de at r in
-      let same : nextBit k ≡ lineState addressed = ap nextBit e ∙ last-bit in
       let ns = map (moved k x) ms in
+      let same : standsBy (nextBit k) ns ≡ stands (lineState addressed) ns = ap (λ (j : ℕ). standsBy (nextBit j) ns) e ∙ last-bit ns in
       let end = masterOf (afterPass q (p + 1)) (p + 1) noBits None (putBit code k x) q in
       let step : afterLevel (masterOf (Direction k x) p (putBit code k x) (marked (opens (rests k 1 ms) x) k opened) previous last) x ≡ end =
       rw (← qe) (completes p (putBit code k x) q previous last few k (omega arith) x x e good) in
-      let go : Driven end (stands (nextBit k) ns) [] [] end (stands (lineState addressed) ns) = rw same here in
+      let go : Driven end (standsBy (nextBit k) ns) [] [] end (stands (lineState addressed) ns) = rw same here in
       let whole = bit k 0 ms code opened x (omega arith) z nc xe step (one-completed p _ _ _ _ _) go in
       rw (de, ← me) (
         ns,
-        subst (λ (y : List ℕ). Driven (masterOf (FirstRead k) p code opened previous last) (stands (searching k Bit) ms) (bitEvents (x ∷ [])) y end (stands (lineState addressed) ns)) (append-nil (putBit code k x)) whole,
+        subst (λ (y : List ℕ). Driven (masterOf (FirstRead k) p code opened previous last) (standsBy (searches k []) ms) (bitEvents (x ∷ [])) y end (stands (lineState addressed) ns)) (append-nil (putBit code k x)) whole,
         moved-devices k x ms,
       )
 
@@ -196,7 +207,7 @@ module _ (p : ℕ) (few : p < 64) (c : Code) (previous : List ℕ) (last : Discr
       rw (← qe) (direction-step p (putBit code k x) q previous last few k (omega arith) x x e) in
       rw (de, ← me) (
         r .0,
-        bit k m ms code opened x (omega arith) z nc xe step (none-completed p _ _ _ _ _) (rw (next-bit k e) (r .1)),
+        bit k m ms code opened x (omega arith) z nc xe step (none-completed p _ _ _ _ _) (rw (next-bit k (map (moved k x) ms) e) (r .1)),
         r .2 ∙ moved-devices k x ms,
       )
 
@@ -237,27 +248,32 @@ module _ (p : ℕ) (few : p < 64) (c : Code) (previous : List ℕ) (last : Discr
   -- ---- reset and command
 
   -- a bit of the command but the last: every device hears the bit that the master sends
-  command-slot : (at value : ℕ) (b : Bool) (ms : List Member) (code : List ℕ) (opened : Discrepancy) {r : Master} {fs : List Device} {trace codes : List ℕ}
-      → at < 7 → Sized (map device ms) → said (answerIn (Command at)) ≡ event (slot b)
-      → Driven (masterOf (Command (at + 1)) p code opened previous last) (stands (lineState (afterCommand at value b)) ms) trace codes r fs
-      → Driven (masterOf (Command at) p code opened previous last) (stands (commanded at value) ms) (slot b ∷ trace) codes r fs
-  command-slot at value b ms code opened low z s go =
-      on-slot b s (command-level at value b ms (omega arith) z) (command-step p code opened previous last few at b low) (command-after at value b ms (omega arith) z) (same-bodies _ _ ms) (none-completed p _ _ _ _ _) go
+  command-slot : (levels : List Bool) (at : ℕ) (b : Bool) (ms : List Member) (code : List ℕ) (opened : Discrepancy) {r : Master} {fs : List Device} {trace codes : List ℕ}
+      → length levels ≡ at → at < 7 → Sized (map device ms) → said (answerIn (Command at)) ≡ event (slot b)
+      → Driven (masterOf (Command (at + 1)) p code opened previous last) (stands (commanded (levels ++ b ∷ [])) ms) trace codes r fs
+      → Driven (masterOf (Command at) p code opened previous last) (stands (commanded levels) ms) (slot b ∷ trace) codes r fs
+  command-slot levels at b ms code opened e low z s go =
+      on-slot b s (command-level levels b ms (omega arith) z) (command-step p code opened previous last few at b low)
+      (command-after levels b ms (omega arith) z) (same-bodies (λ body. commanded (levels ++ b ∷ [])) (λ body. commanded levels) ms)
+      (none-completed p _ _ _ _ _) go
 
   -- F0h
   command : (ms : List Member) (code : List ℕ) (opened : Discrepancy) {r : Master} {fs : List Device} {trace codes : List ℕ} → Sized (map device ms)
-      → Driven (masterOf (FirstRead 0) p code opened previous last) (stands (searching 0 Bit) ms) trace codes r fs
+      → Driven (masterOf (FirstRead 0) p code opened previous last) (standsBy (searches 0 []) ms) trace codes r fs
       → Driven (masterOf (Command 0) p code opened previous last) (stands resetState ms) (0 ∷ 0 ∷ 0 ∷ 0 ∷ 1 ∷ 1 ∷ 1 ∷ 1 ∷ trace) codes r fs
-  unfolding said answerIn slot bitOf afterCommand shiftIn romCommand
+  unfolding said answerIn slot bitOf shiftedOver spelled levelByte romCommand
   command ms code opened z go =
-      command-slot 0 0 false ms code opened (omega arith) z refl
-      (command-slot 1 0 false ms code opened (omega arith) z refl
-      (command-slot 2 0 false ms code opened (omega arith) z refl
-      (command-slot 3 0 false ms code opened (omega arith) z refl
-      (command-slot 4 0 true ms code opened (omega arith) z refl
-      (command-slot 5 128 true ms code opened (omega arith) z refl
-      (command-slot 6 192 true ms code opened (omega arith) z refl
-      (on-slot true refl (command-level 7 224 true ms (omega arith) z) (command-last p code opened previous last few true) (command-after 7 224 true ms (omega arith) z) (same-bodies _ _ ms) (none-completed p _ _ _ _ _) go)))))))
+      let four = false ∷ false ∷ false ∷ false ∷ [] in
+      command-slot [] 0 false ms code opened refl (omega arith) z refl
+      (command-slot (false ∷ []) 1 false ms code opened refl (omega arith) z refl
+      (command-slot (false ∷ false ∷ []) 2 false ms code opened refl (omega arith) z refl
+      (command-slot (false ∷ false ∷ false ∷ []) 3 false ms code opened refl (omega arith) z refl
+      (command-slot four 4 true ms code opened refl (omega arith) z refl
+      (command-slot (four ++ true ∷ []) 5 true ms code opened refl (omega arith) z refl
+      (command-slot (four ++ true ∷ true ∷ []) 6 true ms code opened refl (omega arith) z refl
+      (on-slot true refl (command-level (four ++ true ∷ true ∷ true ∷ []) true ms (omega arith) z) (command-last p code opened previous last few true)
+      (command-done (four ++ true ∷ true ∷ true ∷ []) true ms refl z)
+      (same-bodies (searches 0 []) (λ body. commanded (four ++ true ∷ true ∷ true ∷ [])) ms) (none-completed p _ _ _ _ _) go)))))))
 
   someone : (s : LineState) (ms : List Member) → 0 < length ms → presence (stands s ms) ≡ false
   unfolding presence
@@ -281,7 +297,7 @@ module _ (p : ℕ) (few : p < 64) (c : Code) (previous : List ℕ) (last : Discr
       let rest = bits 63 0 all noBits None {d = d} {h = h} refl sized (ap (λ (T : List Code). pass 64 T (directions-of c last)) (all-rests 0 64 (map device ms)) ∙ f) r in
       let opened : merged 0 h None ≡ h = start h in (
         rest .0,
-        on refl (someone s ms some) (reset-step p noBits None previous last few) (reset-all s false ms u) (active-bodies _ s ms) (none-completed p _ _ _ _ _)
+        on refl (someone s ms some) (reset-step p noBits None previous last few) (reset-all s false ms u) (active-bodies (λ body. resetState) (λ body. s) ms) (none-completed p _ _ _ _ _)
             (command all noBits None sized (rw opened at (rest .1))),
         rest .2 ∙ same,
       )

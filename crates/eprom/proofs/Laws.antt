@@ -9,11 +9,10 @@ use lib.Seq.{take-all}
 use borrow.Author.Tests.{eqb-true, ne-eqb}
 use native.Mathlib.Omega.{arith}
 use Rattle.kind.specs.Kind.{codeLength, «data», dataLength}
+use Rattle.line.proofs.Range.{both}
 use Rattle.line.specs.declared.Field.{Field}
 use Rattle.line.specs.declared.Field.the-variants.{Data, Status}
-use Rattle.line.specs.declared.EpromRead.{EpromRead}
-use Rattle.line.specs.declared.EpromRead.the-variants.{Memory as ReadMemory, Status as ReadStatus, Pages as ReadPages}
-use Rattle.eprom.specs.Eprom.{fieldStart, fieldLength, span, cut, bodyLength}
+use Rattle.eprom.specs.Fields.{fieldStart, fieldLength, cut, bodyLength}
 use Rattle.eprom.specs.View.{fieldsFit, namesData}
 
 -- ---- the fields
@@ -41,16 +40,10 @@ length-most Data = omega arith
 length-most Status = omega arith
 
 -- it lies within the body
-pub within : (field : Field) (a : ℕ) → a < fieldLength field → fieldStart field + a < bodyLength
+pub within : (field : Field) (address : ℕ) → address < fieldLength field → fieldStart field + address < bodyLength
 unfolding fieldStart fieldLength
-within Data a h = omega arith
-within Status a h = omega arith
-
-pub span-least : (read : EpromRead) → 0 < span read
-unfolding span
-span-least ReadMemory = omega arith
-span-least ReadStatus = omega arith
-span-least ReadPages = omega arith
+within Data address h = omega arith
+within Status address h = omega arith
 
 -- a cut address is one of its field's
 pub cut-below : (field : Field) (address : ℕ) → cut field address < fieldLength field
@@ -62,10 +55,6 @@ pub cut-fits : (field : Field) (address : ℕ) → cut field address < dataLengt
 cut-fits field address = omega (arith, length-most field, cut-below field address)
 
 -- ---- the view
-
-pub both : (x y : Bool) → (x && y) ≡ true → (x ≡ true) × (y ≡ true)
-both true y h = (refl, h)
-both false y h = absurd (let z : _≡_ {A = ℕ} 0 1 = cc in omega arith)
 
 -- fields that fit have their lengths
 pub fit-lengths : (bytes status : List ℕ) → fieldsFit bytes status ≡ true
@@ -90,7 +79,11 @@ named command (inr e) = rw e
 
 pub not-named : (command : ℕ) → ((command ≡ 0xC3) ⊎ (command ≡ 0xF0) → ⊥) → namesData command ≡ false
 unfolding namesData
-not-named command h = rw (ne-eqb command 0xF0 (λ (e : command ≡ 0xF0). h (inr e)), ne-eqb command 0xC3 (λ (e : command ≡ 0xC3). h (inl e)))
+not-named command h =
+    rw (
+      ne-eqb command 0xF0 (λ (e : command ≡ 0xF0). h (inr e)),
+      ne-eqb command 0xC3 (λ (e : command ≡ 0xC3). h (inl e)),
+    )
 
 -- a part that goes to a list's end
 pub to-the-end : (a : ℕ) (xs : List ℕ) → take (length xs - a) (drop a xs) ≡ drop a xs

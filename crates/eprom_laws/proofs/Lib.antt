@@ -1,6 +1,4 @@
-pub mod Slots
+pub mod Exchanges
 pub mod Reading
-pub mod Viewing
 pub mod Writing
-pub mod Several
-pub mod Range
+pub mod Viewing

@@ -1,82 +1,119 @@
 -- What goes by in a write: the data byte, its CRC, the pulse, the stored byte, pass by pass. Assumes nothing.
-use Prim.Native.Nat.{ℕ, _+_, _<_, _≤_}
-use mathlib.Core.Path.{_≡_, refl, sym, _∙_}
-use mathlib.Core.Bool.{Bool, true}
-use mathlib.Core.List.{List, [], _∷_, _++_}
-use lib.ListN.{length, replicate}
+use Prim.Native.Nat.{ℕ, _+_, _%_, _<_, _≤_}
+use mathlib.Core.Path.{_≡_, refl}
+use mathlib.Core.List.{List, [], _∷_}
+use native.Mathlib.Omega.{arith}
+use lib.ListN.{length}
 use borrow.Author.Tests.{lt-ltb, le-ltb}
-use Rattle.bits.specs.Crc.{crcFrom, crcOf}
-use Rattle.line.specs.Names.{waiting}
+use Rattle.bits.specs.Crc.{crcFrom}
+use Rattle.line.specs.Transfers.{waiting}
 use Rattle.line.specs.declared.Field.{Field}
 use Rattle.line.specs.declared.Field.the-variants.{Data, Status}
-use Rattle.line.specs.declared.EpromStage.{EpromStage}
-use Rattle.line.specs.declared.EpromStage.the-variants.{WriteData, PulseDue, Stored}
-use Rattle.line.specs.declared.Stage.{Stage}
-use Rattle.eprom.specs.Eprom.{inEprom, fieldLength, writeCommand, writeStart, epromCommand, cut, addressBytes, commandCrc, writeLatch, stored, programmed, nextAddress, epromPulse, epromProgram}
-use Rattle.eprom_laws.specs.Events.{LineEvent, pulse, slots, levelsSent, stageAfterEvents, bodyAfterEvents, Over}
-use Rattle.eprom_laws.specs.Sent.{lowBits, lineBits}
-use Rattle.eprom_laws.specs.Written.{Written, writePassEvents, writePassSent}
-use Rattle.eprom_laws.proofs.Slots.{low-length, then, sent-over, write-crc-sent, stored-sent, write-address-heard, data-heard}
+use Rattle.line.specs.declared.EpromStage.the-variants.{WriteLow, WriteHigh, WriteData, WriteCrc, Stored}
+use Rattle.eprom.specs.Fields.{fieldLength, stored, writeCommand, addressOf, cut, commandCrc}
+use Rattle.eprom.specs.Writes.{writeLow, writeData, writeLatch, afterData, awaitPulse, programmed, sendStored, nextPass}
+use Rattle.eprom.specs.Eprom.{epromCommand, epromNext}
+use Rattle.eprom.proofs.Laws.{length-most}
+use Rattle.eprom_laws.specs.Events.{Device, deviceAt, Exchange, byte, programs, Over}
+use Rattle.eprom_laws.specs.Written.{Written, writeExchanges, firstCrc, nextCrc, nextSent, writeSent}
+use Rattle.eprom_laws.specs.Written.{writeBody, writeTransfer}
+use Rattle.eprom_laws.proofs.Exchanges.{nothing, sent-then, heard-then, pulse-then}
 
-pub write-command : (field : Field) → epromCommand (writeCommand field) ≡ writeStart field
+write-command : (field : Field) → epromCommand (writeCommand field) ≡ writeLow field
 unfolding epromCommand writeCommand
 write-command Data = refl
 write-command Status = refl
 
--- ---- the address
-
 -- after an address the next one, with the register loaded with it; after the last the device waits
-pub next-pass : (field : Field) (a : ℕ) → a + 1 < fieldLength field → nextAddress field a ≡ inEprom (WriteData field (a + 1) 0 0 (a + 1))
-unfolding nextAddress
+pub next-pass : (field : Field) (a : ℕ) → a + 1 < fieldLength field → nextPass field a ≡ writeData field (a + 1) (a + 1)
+unfolding nextPass
 next-pass field a h = simp (lt-ltb _ _ h)
 
-pub last-pass : (field : Field) (a : ℕ) → fieldLength field ≤ a + 1 → nextAddress field a ≡ waiting
-unfolding nextAddress
+pub last-pass : (field : Field) (a : ℕ) → fieldLength field ≤ a + 1 → nextPass field a ≡ waiting
+unfolding nextPass
 last-pass field a h = simp (le-ltb _ _ h)
 
--- ---- one pass
-
--- the pulse
-pulse-then : {t : Stage} {b c : List ℕ} {es : List LineEvent} {xs : List Bool} (e : EpromStage)
-    → Over (epromPulse e) (epromProgram e b) es xs t c → Over (inEprom e) b (pulse ∷ es) xs t c
-unfolding levelsSent stageAfterEvents bodyAfterEvents
-pulse-then e p = record { levels = p .levels; stage = p .stage; stored = p .stored }
-
 module _ (field : Field) where
-  -- the data byte is heard and its CRC sent; then a pulse is due
-  data-and-crc : (body : List ℕ) (a register d : ℕ) → d < 256 → (ls : List Bool) → length ls ≡ 8
-      → Over (inEprom (WriteData field a 0 0 register)) body (slots (lowBits 8 d) ++ slots ls)
-      (replicate 8 true ++ lowBits 8 (crcFrom register (d ∷ []))) (inEprom (PulseDue field a d)) body
-  unfolding crcFrom
-  data-and-crc body a register d h ls e =
-      then (data-heard body field a register d h) (sent-over (write-crc-sent body field a d _) ls (e ∙ sym (low-length 8 _)))
+  -- a data byte is received and its CRC sent, with the register as it is before that byte; then a pulse is due
+  data-and-crc : (a register d line : ℕ) (body : List ℕ) {es : List Exchange} {sent : List ℕ} {after : Device} → d < 256
+      → Over (deviceAt (awaitPulse field a d) body) es sent after
+      → Over (deviceAt (writeData field a register) body) (byte d ∷ byte line ∷ es)
+      (0xFF ∷ crcFrom register (d ∷ []) ∷ sent) after
+  unfolding epromNext afterData crcFrom
+  data-and-crc a register d line body h p =
+      heard-then {e = WriteData field a register} h (sent-then {e = WriteCrc field a d} (λ v. refl) p)
 
-  -- the stored byte is sent
-  sent-back : (body : List ℕ) (a : ℕ) (ls : List Bool) → length ls ≡ 8
-      → Over (inEprom (Stored field a 0)) body (slots ls) (lowBits 8 (stored field a body)) (nextAddress field a) body
-  sent-back body a ls e = sent-over (stored-sent body field a) ls (e ∙ sym (low-length 8 _))
+  -- one pass, and then what comes next
+  pass : (a register : ℕ) (w : Written) (body : List ℕ) {es : List Exchange} {sent : List ℕ} {after : Device}
+      → Over (deviceAt (nextPass field a) (programmed field a (w .value) body)) es sent after
+      → Over (deviceAt (writeData field a register) body)
+      (byte (w .value) ∷ byte (w .lineAtCrc) ∷ programs ∷ byte (w .lineAtStored) ∷ es)
+      (0xFF ∷ crcFrom register (w .value ∷ []) ∷ stored field a (programmed field a (w .value) body) ∷ sent) after
+  unfolding epromNext sendStored
+  pass a register w body p =
+      data-and-crc a register (w .value) (w .lineAtCrc) body (w .fits)
+      (pulse-then (sent-then {e = Stored field a} (λ d. refl) p))
 
-  pub pass : (body : List ℕ) (a register : ℕ) (w : Written)
-      → Over (inEprom (WriteData field a 0 0 register)) body (writePassEvents w) (writePassSent field a register (w .byte) body)
-      (nextAddress field a) (programmed field a (w .byte) body)
-  unfolding writePassEvents writePassSent epromPulse epromProgram
-  pass body a register w =
-      then (data-and-crc body a register (w .byte) (w .fits) (w .crcLevels) (w .crcEight))
-      (pulse-then (PulseDue field a (w .byte)) (sent-back (programmed field a (w .byte) body) a (w .backLevels) (w .backEight)))
+  -- later passes: after an address that is not the last
+  later : (ws : List Written) (a : ℕ) (body : List ℕ) → a + length ws < fieldLength field
+      → Over (deviceAt (nextPass field a) body) (writeExchanges ws) (nextSent field (a + 1) ws body)
+      (deviceAt (nextPass field (a + length ws)) (writeBody field (a + 1) ws body))
+  unfolding writeExchanges nextSent writeBody
+  later [] a body h = let e : a + 0 ≡ a = omega arith in rw e nothing
+  later (w ∷ ws) a body h =
+      let e : a + 1 + length ws ≡ a + length (w ∷ ws) = omega arith in
+      let low : (a + 1) % 256 ≡ a + 1 = omega (arith, length-most field) in
+      let after = programmed field (a + 1) (w .value) body in
+      rw (low, next-pass field a (omega arith))
+      (pass (a + 1) (a + 1) w body (rw e at (later ws (a + 1) after (omega arith))))
 
-  -- the CRC of the first pass is that of command, cut address and data
-  pub first-pass : (body : List ℕ) (address d : ℕ) → address < 65536 → d < 256 → (ls : List Bool) → length ls ≡ 8
-      → Over (epromCommand (writeCommand field)) body (slots (lineBits (addressBytes address)) ++ (slots (lowBits 8 d) ++ slots ls))
-      (replicate 16 true ++ (replicate 8 true ++ lowBits 8 (crcOf (writeCommand field ∷ (addressBytes (cut field address) ++ d ∷ [])))))
-      (inEprom (PulseDue field (cut field address) d)) body
-  unfolding writeLatch commandCrc crcFrom
-  first-pass body address d h k ls e =
-      rw (write-command field) (then (write-address-heard body field address h) (data-and-crc body (cut field address) _ d k ls e))
+  -- all passes, from the second address byte on
+  passes : (ws : List Written) (a : ℕ) (body : List ℕ) → a + length ws ≤ fieldLength field
+      → Over (deviceAt (writeData field a (commandCrc (writeCommand field) a)) body) (writeExchanges ws)
+      (writeSent field a ws body) (deviceAt (writeTransfer field a ws) (writeBody field a ws body))
+  unfolding writeExchanges writeSent writeBody writeTransfer commandCrc crcFrom
+  passes [] a body h = nothing
+  passes (w ∷ ws) a body h =
+      pass a (commandCrc (writeCommand field) a) w body (later ws a (programmed field a (w .value) body) (omega arith))
 
-  -- that of a later pass is the data's on a register that was loaded with the new address
-  pub later-pass : (body : List ℕ) (a d : ℕ) → a + 1 < fieldLength field → d < 256 → (ms ls : List Bool) → length ms ≡ 8 → length ls ≡ 8
-      → Over (inEprom (Stored field a 0)) body (slots ms ++ (slots (lowBits 8 d) ++ slots ls))
-      (lowBits 8 (stored field a body) ++ (replicate 8 true ++ lowBits 8 (crcFrom (a + 1) (d ∷ []))))
-      (inEprom (PulseDue field (a + 1) d)) body
-  later-pass body a d h k ms ls f e =
-      then (rw (next-pass field a h) at (sent-back body a ms f)) (data-and-crc body (a + 1) (a + 1) d k ls e)
+  module _ (low high : ℕ) (low-fits : low < 256) (high-fits : high < 256) (body : List ℕ) where
+    abbrev start : ℕ
+    start = cut field (addressOf low high)
+
+    -- the two address bytes come in, and are cut
+    address-then : {es : List Exchange} {sent : List ℕ} {after : Device}
+        → Over (deviceAt (writeData field start (commandCrc (writeCommand field) start)) body) es sent after
+        → Over (deviceAt (epromCommand (writeCommand field)) body) (byte low ∷ byte high ∷ es)
+        (0xFF ∷ 0xFF ∷ sent) after
+    unfolding epromNext writeLatch
+    address-then p =
+        rw (write-command field)
+        (heard-then {e = WriteLow field} low-fits (heard-then {e = WriteHigh field low} high-fits p))
+
+    -- 0Fh, 55h, from the end of the command on: ones while the two address bytes come in; then pass by pass, as far as
+    -- the field goes, what a write sends and stores
+    pub write-law : (ws : List Written) → start + length ws ≤ fieldLength field
+        → Over (deviceAt (epromCommand (writeCommand field)) body) (byte low ∷ byte high ∷ writeExchanges ws)
+        (0xFF ∷ 0xFF ∷ writeSent field start ws body)
+        (deviceAt (writeTransfer field start ws) (writeBody field start ws body))
+    write-law ws h = address-then (passes ws start body h)
+
+    -- without the pulse: the CRC of the first pass is that of command, cut address and data, and the body stays as it
+    -- was
+    pub first-pass : (d line : ℕ) → d < 256
+        → Over (deviceAt (epromCommand (writeCommand field)) body) (byte low ∷ byte high ∷ byte d ∷ byte line ∷ [])
+        (0xFF ∷ 0xFF ∷ 0xFF ∷ firstCrc field start d ∷ []) (deviceAt (awaitPulse field start d) body)
+    unfolding commandCrc crcFrom
+    first-pass d line h =
+        address-then (data-and-crc start (commandCrc (writeCommand field) start) d line body h nothing)
+
+  -- that of a later pass is the data's, on a register that was loaded with the new address
+  pub later-pass : (body : List ℕ) (a back d line : ℕ) → a + 1 < fieldLength field → d < 256
+      → Over (deviceAt (sendStored field a body) body) (byte back ∷ byte d ∷ byte line ∷ [])
+      (stored field a body ∷ 0xFF ∷ nextCrc (a + 1) d ∷ []) (deviceAt (awaitPulse field (a + 1) d) body)
+  unfolding epromNext sendStored
+  later-pass body a back d line h k =
+      let low : (a + 1) % 256 ≡ a + 1 = omega (arith, length-most field) in
+      rw low
+      (sent-then {e = Stored field a} (λ v. next-pass field a h)
+      (data-and-crc (a + 1) (a + 1) d line body k nothing))

@@ -1,28 +1,13 @@
 -- Document 01, 'DS1982 memory stage': the bytes that a read sends.
 use Prim.Native.Nat.{ℕ, zero, suc, _-_, _/_, _%_}
-use mathlib.Core.Bool.{Bool}
 use mathlib.Core.List.{List, [], _∷_, _++_}
 use lib.ListN.{take, drop}
-use Rattle.bits.specs.Bit.{bitOf}
 use Rattle.bits.specs.Crc.{crcOf}
 use Rattle.line.specs.declared.Field.{Field}
 use Rattle.line.specs.declared.EpromRead.{EpromRead}
 use Rattle.line.specs.declared.EpromRead.the-variants.{Memory as ReadMemory, Status as ReadStatus, Pages as ReadPages}
-use Rattle.eprom.specs.Eprom.{fieldStart, fieldLength, fieldRead, pageLength, readCommand, commandCrc}
-
--- ---- bits on the line
-
--- the n low bits of a number, the lowest first
-unfoldable pub lowBits : ℕ → ℕ → List Bool
-lowBits zero value = []
-lowBits (suc n) value = bitOf value 0 ∷ lowBits n (value / 2)
-
--- bytes, one after another
-unfoldable pub lineBits : List ℕ → List Bool
-lineBits [] = []
-lineBits (byte ∷ bytes) = lowBits 8 byte ++ lineBits bytes
-
--- ---- what a read sends
+use Rattle.kind.specs.Kind.{pageLength}
+use Rattle.eprom.specs.Fields.{fieldStart, fieldLength, fieldRead, readCommand, commandCrc}
 
 -- a field of the body
 unfoldable pub fieldOf : Field → List ℕ → List ℕ
@@ -32,7 +17,8 @@ fieldOf field body = take (fieldLength field) (drop (fieldStart field) body)
 unfoldable pub withCrc : List ℕ → List ℕ
 withCrc bytes = bytes ++ crcOf bytes ∷ []
 
--- bytes to the page's end and their CRC, page by page: the first page has so many bytes left, each later one all of its own
+-- bytes to the page's end and their CRC, page by page: the first page has so many bytes left, each later one all of its
+-- own
 unfoldable pub pageByPage : ℕ → ℕ → List ℕ → List ℕ
 pageByPage zero left bytes = []
 pageByPage (suc pages) left bytes = withCrc (take left bytes) ++ pageByPage pages pageLength (drop left bytes)

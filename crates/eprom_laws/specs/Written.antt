@@ -1,54 +1,58 @@
 -- Document 01, 'DS1982 memory stage': a write of several bytes, each with its pulse.
-use Prim.Native.Nat.{ℕ, _+_, _<_}
-use mathlib.Core.Path.{_≡_}
-use mathlib.Core.Bool.{Bool, true}
+use Prim.Native.Nat.{ℕ, _+_, _/_, _%_, _<_}
 use mathlib.Core.List.{List, [], _∷_, _++_}
-use lib.ListN.{length, replicate}
-use Rattle.bits.specs.Crc.{crcFrom}
+use lib.ListN.{length}
+use Rattle.bits.specs.Crc.{crcFrom, crcOf}
 use Rattle.line.specs.declared.Field.{Field}
-use Rattle.line.specs.declared.EpromStage.the-variants.{WriteData}
-use Rattle.line.specs.declared.Stage.{Stage}
-use Rattle.eprom.specs.Eprom.{inEprom, stored, programmed, nextAddress}
-use Rattle.eprom_laws.specs.Events.{LineEvent, pulse, slots}
-use Rattle.eprom_laws.specs.Sent.{lowBits}
+use Rattle.line.specs.declared.Transfer.{Transfer}
+use Rattle.eprom.specs.Fields.{writeCommand, stored, commandCrc}
+use Rattle.eprom.specs.Writes.{writeData, programmed, nextPass}
+use Rattle.eprom_laws.specs.Events.{Exchange, byte, programs}
 
--- a byte that is written, with the line's levels while the device sends its CRC and the stored byte
+-- a byte that is written, and what the line has while the device sends its CRC and the stored byte
 pub record Written : Type 0 where
-  pub byte : ℕ
-  pub fits : byte < 256
-  pub crcLevels : List Bool
-  pub crcEight : length crcLevels ≡ 8
-  pub backLevels : List Bool
-  pub backEight : length backLevels ≡ 8
+  pub value : ℕ
+  pub fits : value < 256
+  pub lineAtCrc : ℕ
+  pub lineAtStored : ℕ
 
 -- a pass: the data byte, its CRC, the pulse, the stored byte
-unfoldable pub writePassEvents : Written → List LineEvent
-writePassEvents w = (slots (lowBits 8 (w .byte)) ++ slots (w .crcLevels)) ++ (pulse ∷ slots (w .backLevels))
+unfoldable pub writeExchanges : List Written → List Exchange
+writeExchanges [] = []
+writeExchanges (w ∷ ws) =
+    byte (w .value) ∷ byte (w .lineAtCrc) ∷ programs ∷ byte (w .lineAtStored) ∷ writeExchanges ws
 
--- what the device sends in it at an address, with the register as it is at its start: ones, the CRC, the byte that is then stored
-unfoldable pub writePassSent : Field → ℕ → ℕ → ℕ → List ℕ → List Bool
-writePassSent field address register byte body =
-    (replicate 8 true ++ lowBits 8 (crcFrom register (byte ∷ [])))
-    ++ lowBits 8 (stored field address (programmed field address byte body))
+-- on the first pass the CRC is that of command, address and data
+abbrev pub firstCrc : Field → ℕ → ℕ → ℕ
+firstCrc field address value = crcOf (writeCommand field ∷ address % 256 ∷ address / 256 ∷ value ∷ [])
 
--- passes one after another
-unfoldable pub writeEvents : List Written → List LineEvent
-writeEvents [] = []
-writeEvents (w ∷ ws) = writePassEvents w ++ writeEvents ws
+-- on each later pass it is the data's, on a register that was loaded with the new address's low byte
+abbrev pub nextCrc : ℕ → ℕ → ℕ
+nextCrc address value = crcFrom (address % 256) (value ∷ [])
 
--- what the device sends in them from an address on, as long as the field goes; before each later pass the register is loaded with the
--- new address
-unfoldable pub writeSent : Field → ℕ → ℕ → List Written → List ℕ → List Bool
-writeSent field address register [] body = []
-writeSent field address register (w ∷ ws) body =
-    writePassSent field address register (w .byte) body
-    ++ writeSent field (address + 1) (address + 1) ws (programmed field address (w .byte) body)
+-- what the device sends in a pass: ones, the CRC, the byte as it is stored then
+abbrev pub passSent : Field → ℕ → ℕ → ℕ → List ℕ → List ℕ
+passSent field address crc value body = 0xFF ∷ crc ∷ stored field address (programmed field address value body) ∷ []
 
--- the body after them, and the stage: after the last address the device waits
+unfoldable pub nextSent : Field → ℕ → List Written → List ℕ → List ℕ
+nextSent field address [] body = []
+nextSent field address (w ∷ ws) body =
+    passSent field address (nextCrc address (w .value)) (w .value) body
+    ++ nextSent field (address + 1) ws (programmed field address (w .value) body)
+
+-- what it sends in all passes, from the start address on, as it was cut
+unfoldable pub writeSent : Field → ℕ → List Written → List ℕ → List ℕ
+writeSent field address [] body = []
+writeSent field address (w ∷ ws) body =
+    passSent field address (firstCrc field address (w .value)) (w .value) body
+    ++ nextSent field (address + 1) ws (programmed field address (w .value) body)
+
+-- the body after them
 unfoldable pub writeBody : Field → ℕ → List Written → List ℕ → List ℕ
 writeBody field address [] body = body
-writeBody field address (w ∷ ws) body = writeBody field (address + 1) ws (programmed field address (w .byte) body)
+writeBody field address (w ∷ ws) body = writeBody field (address + 1) ws (programmed field address (w .value) body)
 
-unfoldable pub writeStage : Field → ℕ → ℕ → List Written → Stage
-writeStage field address register [] = inEprom (WriteData field address 0 0 register)
-writeStage field address register (w ∷ ws) = nextAddress field (address + length ws)
+-- the transfer after them: that of the next pass, or after the last address none, as the device waits
+unfoldable pub writeTransfer : Field → ℕ → List Written → Transfer
+writeTransfer field address [] = writeData field address (commandCrc (writeCommand field) address)
+writeTransfer field address (w ∷ ws) = nextPass field (address + length ws)

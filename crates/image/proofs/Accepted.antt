@@ -13,9 +13,9 @@ use borrow.Author.Tests.{ltb-false, le-ltb, eqb-true, eq-eqb, not-true, not-fals
 use Rattle.bits.specs.Crc.{registered, crcOf}
 use Rattle.kind.specs.declared.Kind.{Kind}
 use Rattle.kind.specs.declared.Kind.the-variants.{Sram, Eprom, Unknown}
-use Rattle.kind.specs.Kind.{bodySize, codeLength}
+use Rattle.kind.specs.Kind.{bodySize, codeLength, isUnknown}
 use Rattle.image.specs.Image.{countOf, editionOf, familyAt, secondAt, offsetAt, kindAt, packedAt, bodyAt, codeAt}
-use Rattle.image.specs.Refusal.{someBelow, equalBytes, firstOf, unknown, entryMalformed, malformed, misplaced, codeRefused, miscoded, repeated, doubled, imageCauses, imageRefusal}
+use Rattle.image.specs.Refusal.{someBelow, equalBytes, firstOf, entryMalformed, malformed, misplaced, codeRefused, miscoded, repeated, doubled, imageCauses, imageRefusal}
 
 -- ---- tests
 
@@ -78,7 +78,7 @@ pub record Known (image : List ℕ) : Type 0 where
   pub few : countOf image ≤ 64
   pub edition : editionOf image ≡ 1
   pub second : (i : ℕ) → i < countOf image → secondAt image i ≡ 0
-  pub kind : (i : ℕ) → i < countOf image → unknown (kindAt image i) ≡ false
+  pub kind : (i : ℕ) → i < countOf image → isUnknown (kindAt image i) ≡ false
   pub placed : (i : ℕ) → i < countOf image → offsetAt image i ≡ packedAt image i
   pub whole : length image ≡ packedAt image (countOf image)
   pub code : (i : ℕ) → i < countOf image → registered (codeAt image i) ≡ true
@@ -94,8 +94,8 @@ accepted-known image e =
     let one = or-false (ltb (length image) (2 + 4 * n) || ltb 64 n || not (eqb (editionOf image) 1)) (someBelow n (λ i. entryMalformed image i)) (none .0) in
     let two = or-false (ltb (length image) (2 + 4 * n) || ltb 64 n) (not (eqb (editionOf image) 1)) (one .0) in
     let three = or-false (ltb (length image) (2 + 4 * n)) (ltb 64 n) (two .0) in
-    let entry : ((i : ℕ) → i < n → (not (eqb (secondAt image i) 0) ≡ false) × (unknown (kindAt image i) ≡ false)) =
-    λ i h. or-false (not (eqb (secondAt image i) 0)) (unknown (kindAt image i)) (some-none (λ i. entryMalformed image i) n i (one .1) h) in
+    let entry : ((i : ℕ) → i < n → (not (eqb (secondAt image i) 0) ≡ false) × (isUnknown (kindAt image i) ≡ false)) =
+    λ i h. or-false (not (eqb (secondAt image i) 0)) (isUnknown (kindAt image i)) (some-none (λ i. entryMalformed image i) n i (one .1) h) in
     let place = or-false (someBelow n (λ i. not (eqb (offsetAt image i) (packedAt image i)))) (not (eqb (length image) (packedAt image n))) (none .1) in
     let code : ((i : ℕ) → i < n → (not (registered (codeAt image i)) ≡ false) × (not (eqb (getD (codeAt image i) 0 0) (familyAt image i)) ≡ false)) =
     λ i h. or-false (not (registered (codeAt image i))) (not (eqb (getD (codeAt image i) 0 0) (familyAt image i))) (some-none (λ i. codeRefused image i) n i (none .2) h) in
@@ -169,8 +169,8 @@ packed-apart image i (suc j) h =
     (eq-or-lt-of-le (omega arith))
 
 -- a body of a known kind has room for its code
-size-room : (kind : Kind) → unknown kind ≡ false → codeLength ≤ bodySize kind
-unfolding bodySize unknown
+size-room : (kind : Kind) → isUnknown kind ≡ false → codeLength ≤ bodySize kind
+unfolding bodySize isUnknown
 size-room (Sram size) e = omega arith
 size-room Eprom e = omega arith
 size-room Unknown e = absurd (true≢false e)

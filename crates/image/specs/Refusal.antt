@@ -5,8 +5,7 @@ use mathlib.Core.List.{List, [], _∷_}
 use lib.ListN.{length, getD}
 use lib.Dec.{eqb, ltb}
 use Rattle.bits.specs.Crc.{registered}
-use Rattle.kind.specs.declared.Kind.{Kind}
-use Rattle.kind.specs.declared.Kind.the-variants.{Sram, Eprom, Unknown}
+use Rattle.kind.specs.Kind.{isUnknown}
 use Rattle.image.specs.Image.{countOf, editionOf, familyAt, secondAt, offsetAt, kindAt, packedAt, codeAt}
 
 -- a test passes at some number below n
@@ -31,14 +30,9 @@ unfoldable pub firstOf : List Cause → ℕ
 firstOf [] = 0
 firstOf (c ∷ cs) = cond (c .applies) (c .number) (firstOf cs)
 
-unfoldable pub unknown : Kind → Bool
-unknown (Sram size) = false
-unknown Eprom = false
-unknown Unknown = true
-
 -- 1: image shorter than 2 + 4n, n over 64, edition not 1, a nonzero second entry byte, unknown family
 unfoldable pub entryMalformed : List ℕ → ℕ → Bool
-entryMalformed image i = not (eqb (secondAt image i) 0) || unknown (kindAt image i)
+entryMalformed image i = not (eqb (secondAt image i) 0) || isUnknown (kindAt image i)
 
 unfoldable pub malformed : List ℕ → Bool
 malformed image =

@@ -4,7 +4,7 @@ ghost use mathlib.Core.Path.{_≡_};
 ghost use lib.ListN.{length};
 ghost use Rattle.kind.specs.Kind.{bodySize};
 ghost use Rattle.image.specs.Image.{countOf, editionOf, familyAt, secondAt, offsetAt, kindAt, codeAt, entryOf};
-ghost use Rattle.image.specs.Refusal.{someBelow, equalBytes, unknown, entryMalformed, malformed, misplaced, codeRefused, miscoded, repeated, doubled, imageRefusal};
+ghost use Rattle.image.specs.Refusal.{someBelow, equalBytes, entryMalformed, malformed, misplaced, codeRefused, miscoded, repeated, doubled, imageRefusal};
 
 // What an entry says of its device: the kind, and where the body starts in the image.
 pub struct Entry {
@@ -12,11 +12,8 @@ pub struct Entry {
     pub start: usize,
 }
 
-fn wide(byte: u8) -> usize
-    ensures { λ r. ⌜ r ≡ byte ⌝ }
-{
-    byte as usize
-}
+// The number of what is not refused.
+pub const ACCEPTED: u32 = 0;
 
 // The number of devices.
 pub fn count(image: &[u8]) -> u8
@@ -28,13 +25,13 @@ pub fn count(image: &[u8]) -> u8
 fn family_at(image: &[u8], i: u8) -> u8
     ensures { λ r. ⌜ r ≡ familyAt (now (image .entry)) i ⌝ }
 {
-    bits::byte_at(image, 2 + 4 * wide(i))
+    bits::byte_at(image, 2 + 4 * bits::wide(i))
 }
 
 fn second_at(image: &[u8], i: u8) -> u8
     ensures { λ r. ⌜ r ≡ secondAt (now (image .entry)) i ⌝ }
 {
-    bits::byte_at(image, 2 + 4 * wide(i) + 1)
+    bits::byte_at(image, 2 + 4 * bits::wide(i) + 1)
 }
 
 fn kind_at(image: &[u8], i: u8) -> Kind
@@ -46,8 +43,8 @@ fn kind_at(image: &[u8], i: u8) -> Kind
 fn offset_at(image: &[u8], i: u8) -> u16
     ensures { λ r. ⌜ r ≡ offsetAt (now (image .entry)) i ⌝ }
 {
-    let low = bits::byte_at(image, 2 + 4 * wide(i) + 2);
-    let high = bits::byte_at(image, 2 + 4 * wide(i) + 3);
+    let low = bits::byte_at(image, 2 + 4 * bits::wide(i) + 2);
+    let high = bits::byte_at(image, 2 + 4 * bits::wide(i) + 3);
     low as u16 + 256 * (high as u16)
 }
 
@@ -60,23 +57,13 @@ pub fn entry_at(image: &[u8], i: u8) -> Entry
     Entry { kind, start }
 }
 
-fn is_unknown(kind: Kind) -> bool
-    ensures { λ r. ⌜ r ≡ unknown kind ⌝ }
-{
-    match kind {
-        Kind::Sram { size: _ } => false,
-        Kind::Eprom => false,
-        Kind::Unknown => true,
-    }
-}
-
 fn is_entry_malformed(image: &[u8], i: u8) -> bool
     ensures { λ r. ⌜ r ≡ entryMalformed (now (image .entry)) i ⌝ }
 {
     if second_at(image, i) != 0 {
         return true;
     }
-    is_unknown(kind_at(image, i))
+    kind::is_unknown(kind_at(image, i))
 }
 
 fn has_malformed_entry(image: &[u8]) -> bool
@@ -104,7 +91,7 @@ fn is_malformed(image: &[u8]) -> bool
     ensures { λ r. ⌜ r ≡ malformed (now (image .entry)) ⌝ }
 {
     let n = count(image);
-    if image.len() < 2 + 4 * wide(n) {
+    if image.len() < 2 + 4 * bits::wide(n) {
         return true;
     }
     if 64 < n {
@@ -121,7 +108,7 @@ fn is_misplaced(image: &[u8]) -> bool
     ensures { λ r. ⌜ r ≡ misplaced (now (image .entry)) ⌝ }
 {
     let n = count(image);
-    let mut at = 2 + 4 * wide(n);
+    let mut at = 2 + 4 * bits::wide(n);
     let mut i: u8 = 0;
     while i < n {
         if offset_at(image, i) as usize != at {
@@ -222,5 +209,5 @@ pub fn refusal(image: &[u8]) -> u32
     if is_doubled(image) {
         return 4;
     }
-    0
+    ACCEPTED
 }

@@ -1,158 +1,135 @@
 // The ROM stage: which devices are addressed.
 use line::RomStage;
-use line::SearchSlot;
 use line::Stage;
+use line::Transfer;
 ghost use mathlib.Core.Path.{_≡_};
-ghost use Rattle.rom.specs.Rom.{romRange, addressed, romCommand, afterCommand, afterRead, afterMatch, afterDirection, afterSearch, romStep, searchSends, romSends};
+ghost use Rattle.rom.specs.Rom.{romRange, readByte, matchBit, searchBit, romCommand, afterRead};
+ghost use Rattle.rom.specs.Rom.{afterMatch, afterSearch, romNext};
 
-// The last of the 64 code bits.
+// The last of the 8 code bytes, and of the 64 code bits.
+const LAST_BYTE: u8 = 7;
+
 const LAST_BIT: u8 = 63;
 
-// Whether the numbers of a ROM stage are in its range.
-pub fn in_range(r: RomStage) -> bool
-    ensures { λ b. ⌜ b ≡ romRange r ⌝ }
+// The three bits of a search transfer, the lowest sent first: the code bit, its complement, and a one while the
+// device listens.
+const SEARCH_ONE: u8 = 0b101;
+
+const SEARCH_ZERO: u8 = 0b110;
+
+// Sends a byte of the code.
+fn read_byte(byte: u8, body: &[u8]) -> Transfer
+    ensures { λ r. ⌜ r ≡ readByte byte (now (body .entry)) ⌝ }
 {
-    match r {
-        RomStage::Waiting => true,
-        RomStage::Command { bits, value: _ } => bits < 8,
-        RomStage::Read { at } => at < 64,
-        RomStage::Match { at } => at < 64,
-        RomStage::Search { at, slot: _ } => at < 64,
-    }
+    line::sending(
+        Stage::Rom(RomStage::Read { byte }),
+        bits::byte_at(body, byte as usize),
+    )
 }
 
-// The stage of a device that is addressed: every way out of the ROM stage that is not waiting ends here.
-fn addressed() -> Stage
-    ensures { λ r. ⌜ r ≡ addressed ⌝ }
+// Receives the level that a bit of the code is compared with.
+fn match_bit(at: u8) -> Transfer
+    ensures { λ r. ⌜ r ≡ matchBit at ⌝ }
 {
-    line::at_memory_command()
+    line::listening_once(Stage::Rom(RomStage::Match { at }))
 }
 
-// The stage that a whole ROM command leads to.
-fn command(value: u8) -> Stage
-    ensures { λ r. ⌜ r ≡ romCommand value ⌝ }
+// Sends a bit of the code and its complement, and receives the direction.
+fn search_bit(at: u8, body: &[u8]) -> Transfer
+    ensures { λ r. ⌜ r ≡ searchBit at (now (body .entry)) ⌝ }
 {
-    match value {
-        0x33 => Stage::Rom(RomStage::Read { at: 0 }),
-        0x55 => Stage::Rom(RomStage::Match { at: 0 }),
-        0xF0 => Stage::Rom(RomStage::Search {
-            at: 0,
-            slot: SearchSlot::Bit,
-        }),
-        0xCC => addressed(),
-        _ => line::waiting(),
-    }
-}
-
-// A bit of the command: the eighth decides.
-fn after_command(bits: u8, value: u8, level: bool) -> Stage
-    ensures { λ r. ⌜ r ≡ afterCommand bits value level ⌝ }
-{
-    let received = bits::shift_in(value, level);
-    if bits < 7 {
-        Stage::Rom(RomStage::Command {
-            bits: bits + 1,
-            value: received,
-        })
+    let stage = Stage::Rom(RomStage::Search { at });
+    if bits::bit_at(body, at as usize) {
+        Transfer {
+            register: SEARCH_ONE,
+            left: 3,
+            stage,
+        }
     } else {
-        command(received)
-    }
-}
-
-// A code bit was sent.
-fn after_read(at: u8) -> Stage
-    ensures { λ r. ⌜ r ≡ afterRead at ⌝ }
-{
-    if at < LAST_BIT {
-        Stage::Rom(RomStage::Read { at: at + 1 })
-    } else {
-        addressed()
-    }
-}
-
-// A code bit was compared with a level.
-fn after_match(at: u8, same: bool) -> Stage
-    ensures { λ r. ⌜ r ≡ afterMatch at same ⌝ }
-{
-    if !same {
-        return line::waiting();
-    }
-    if at < LAST_BIT {
-        Stage::Rom(RomStage::Match { at: at + 1 })
-    } else {
-        addressed()
-    }
-}
-
-// A code bit was compared with the master's direction.
-fn after_direction(at: u8, same: bool) -> Stage
-    ensures { λ r. ⌜ r ≡ afterDirection at same ⌝ }
-{
-    if !same {
-        return line::waiting();
-    }
-    if at < LAST_BIT {
-        Stage::Rom(RomStage::Search {
-            at: at + 1,
-            slot: SearchSlot::Bit,
-        })
-    } else {
-        addressed()
-    }
-}
-
-// One of the three slots of a code bit in search ROM.
-fn after_search(at: u8, slot: SearchSlot, same: bool) -> Stage
-    ensures { λ r. ⌜ r ≡ afterSearch at slot same ⌝ }
-{
-    match slot {
-        SearchSlot::Bit => Stage::Rom(RomStage::Search {
-            at,
-            slot: SearchSlot::Complement,
-        }),
-        SearchSlot::Complement => Stage::Rom(RomStage::Search {
-            at,
-            slot: SearchSlot::Direction,
-        }),
-        SearchSlot::Direction => after_direction(at, same),
-    }
-}
-
-// The stage of a device after a slot at a level.
-pub fn step(r: RomStage, body: &[u8], level: bool) -> Stage
-    ensures { λ s. ⌜ s ≡ romStep r (now (body .entry)) level ⌝ }
-{
-    match r {
-        RomStage::Waiting => line::waiting(),
-        RomStage::Command { bits, value } => after_command(bits, value, level),
-        RomStage::Read { at } => after_read(at),
-        RomStage::Match { at } => after_match(at, bits::bit_at(body, at as usize) == level),
-        RomStage::Search { at, slot } => {
-            after_search(at, slot, bits::bit_at(body, at as usize) == level)
+        Transfer {
+            register: SEARCH_ZERO,
+            left: 3,
+            stage,
         }
     }
 }
 
-// The level sent in one of the three slots.
-fn search_sends(slot: SearchSlot, bit: bool) -> bool
-    ensures { λ b. ⌜ b ≡ searchSends slot bit ⌝ }
+// What a command leads to.
+fn command(value: u8, body: &[u8]) -> Transfer
+    ensures { λ r. ⌜ r ≡ romCommand value (now (body .entry)) ⌝ }
 {
-    match slot {
-        SearchSlot::Bit => bit,
-        SearchSlot::Complement => !bit,
-        SearchSlot::Direction => true,
+    match value {
+        0x33 => read_byte(0, body),
+        0x55 => match_bit(0),
+        0xF0 => search_bit(0, body),
+        0xCC => line::at_memory_command(),
+        _ => line::waiting(),
     }
 }
 
-// The level that a device sends in a slot: true where it listens or waits.
-pub fn sends(r: RomStage, body: &[u8]) -> bool
-    ensures { λ b. ⌜ b ≡ romSends r (now (body .entry)) ⌝ }
+// A byte of the code was sent.
+fn after_read(byte: u8, body: &[u8]) -> Transfer
+    ensures { λ r. ⌜ r ≡ afterRead byte (now (body .entry)) ⌝ }
+{
+    if byte < LAST_BYTE {
+        read_byte(byte + 1, body)
+    } else {
+        line::at_memory_command()
+    }
+}
+
+// A bit of the code was compared with a level.
+fn after_match(at: u8, same: bool) -> Transfer
+    ensures { λ r. ⌜ r ≡ afterMatch at same ⌝ }
+{
+    if same {
+        if at < LAST_BIT {
+            match_bit(at + 1)
+        } else {
+            line::at_memory_command()
+        }
+    } else {
+        line::waiting()
+    }
+}
+
+// A bit of the code was compared with the direction.
+fn after_search(at: u8, body: &[u8], same: bool) -> Transfer
+    ensures { λ r. ⌜ r ≡ afterSearch at (now (body .entry)) same ⌝ }
+{
+    if same {
+        if at < LAST_BIT {
+            search_bit(at + 1, body)
+        } else {
+            line::at_memory_command()
+        }
+    } else {
+        line::waiting()
+    }
+}
+
+// The transfer after that of a stage, in which `value` was received; its last slot was at `level`.
+pub fn next(r: RomStage, value: u8, body: &[u8], level: bool) -> Transfer
+    ensures { λ t. ⌜ t ≡ romNext r value (now (body .entry)) level ⌝ }
 {
     match r {
-        RomStage::Waiting => true,
-        RomStage::Command { bits: _, value: _ } => true,
-        RomStage::Read { at } => bits::bit_at(body, at as usize),
-        RomStage::Match { at: _ } => true,
-        RomStage::Search { at, slot } => search_sends(slot, bits::bit_at(body, at as usize)),
+        RomStage::Waiting => line::waiting(),
+        RomStage::Command => command(value, body),
+        RomStage::Read { byte } => after_read(byte, body),
+        RomStage::Match { at } => after_match(at, bits::bit_at(body, at as usize) == level),
+        RomStage::Search { at } => after_search(at, body, bits::bit_at(body, at as usize) == level),
+    }
+}
+
+// Whether the numbers of a transfer of this stage are in their range.
+pub fn in_range(r: RomStage, register: u8, left: u8) -> bool
+    ensures { λ b. ⌜ b ≡ romRange r register left ⌝ }
+{
+    match r {
+        RomStage::Waiting => (register == 255) & (left == 0),
+        RomStage::Command => line::under_way(8, left),
+        RomStage::Read { byte } => (byte < 8) & line::under_way(8, left),
+        RomStage::Match { at } => (at < 64) & line::under_way(1, left),
+        RomStage::Search { at } => (at < 64) & line::under_way(3, left),
     }
 }

@@ -1,4 +1,5 @@
 pub mod Counts
 pub mod Loop
+pub mod Until
 pub mod Shown
-pub mod Steps
+pub mod Shapes

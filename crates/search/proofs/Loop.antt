@@ -1,5 +1,6 @@
 -- The loop of `exchange`: the state after k exchanges, by recursion on k, and that after as many as the search has events it is the search's.
--- Assumes nothing.
+-- A turn of the loop begins with the master's step, so that it ends one exchange and begins the next: what the loop
+-- holds between its turns is stated from the same states. Assumes nothing.
 use Prim.Native.Nat.{ℕ, zero, suc, _+_, _-_, _*_, _<_, _≤_}
 use mathlib.Core.Path.{_≡_, refl, sym, ap, subst, _∙_}
 use mathlib.Core.Bool.{Bool, true, false, not, cond, true≢false}
@@ -18,7 +19,7 @@ use Rattle.bits.specs.Bit.{levelByte}
 use Rattle.bus.specs.Bus.{Device, deviceWith, eventOf, nextState, runTrace}
 use Rattle.bus.specs.Bus as Bus
 use Rattle.bus.specs.Run.{devicesFrom, statesOf}
-use Rattle.bus.specs.Loops.{placeIn, deviceAt, deviceIn, devicesIn, levelOn, statesAfter}
+use Rattle.bus.specs.Loops.{turnedFrom, levelAsItIs, levelOn, statesAfter}
 use Rattle.bus.proofs.Shown.{devices-states}
 use Rattle.bus.proofs.States.{states-length}
 use Rattle.master.specs.declared.Answer.{Answer}
@@ -33,7 +34,7 @@ use Rattle.discovery.specs.Searched.{Searched, eventsFor}
 use Rattle.discovery.proofs.Driven.{driven-stops, driven-devices}
 use Rattle.discovery.proofs.Demand.{searched}
 use Rattle.discovery.proofs.Going as G
-use Rattle.discovery.proofs.Going.{Going, going-start, going-end, going-room, going-on, linesAfter}
+use Rattle.discovery.proofs.Going.{Going, going-start, going-end, going-room, going-on, linesAfter, turned-in, level-in}
 use Rattle.search.specs.Exchange.{hasEvent, eventIn, Ready}
 
 -- ---- the state
@@ -53,13 +54,13 @@ module _ (image : List ℕ) where
   sentIn s = eventIn (s .step .answer)
 
   abbrev pub levelIn : State → Bool
-  levelIn s = levelOn image (s .lines) (sentIn s)
+  levelIn s = levelOn (s .lines) (countOf image) (sentIn s)
 
   -- exchange k, at a level
   abbrev pub exchangeWith : ℕ → State → Bool → State
   exchangeWith k s level =
       state (stepOf (s .step .next) (levelByte level))
-      (statesAfter image (s .lines) (sentIn s) level)
+      (statesAfter image (s .lines) (countOf image) (sentIn s) level)
       (set (s .trace) k (sentIn s))
       (sets (s .codes) (codeBytes * s .step .next .passes) (codeCompleted (s .step .next .passes) (nextOf (s .step .next) (levelByte level))))
 
@@ -70,7 +71,7 @@ module _ (image : List ℕ) where
   pub lines-length : (k : ℕ) (s : State) → length (exchanges k s .lines) ≡ length (s .lines)
   unfolding exchanges
   lines-length zero s = refl
-  lines-length (suc k) s = states-length image (exchanges k s .lines) (sentIn (exchanges k s)) (levelIn (exchanges k s)) ∙ lines-length k s
+  lines-length (suc k) s = states-length image (exchanges k s .lines) (countOf image) (sentIn (exchanges k s)) (levelIn (exchanges k s)) ∙ lines-length k s
 
   pub trace-length : (k : ℕ) (s : State) → length (exchanges k s .trace) ≡ length (s .trace)
   unfolding exchanges
@@ -85,26 +86,41 @@ module _ (image : List ℕ) where
       let m = before .step .next in
       length-sets (before .codes) (codeBytes * m .passes) (codeCompleted (m .passes) (nextOf m (levelByte (levelIn before)))) ∙ codes-length k s
 
-  -- ---- the devices of an accepted image
+-- ---- what the loop holds when turn k begins, beside the lines and the trace after k exchanges
+module _ (image : List ℕ) (s : State) where
+  -- the master and the codes that step k - 1 left, and the level of its event
+  abbrev pub masterAt : ℕ → Master
+  masterAt zero = fresh
+  masterAt (suc k) = exchanges image k s .step .next
 
-  place-cut : (o size : ℕ) → o + size - o ≡ size
-  place-cut o size = omega arith
+  abbrev pub levelAt : ℕ → ℕ
+  levelAt zero = 0
+  levelAt (suc k) = levelByte (levelIn image (exchanges image k s))
 
-  device-same : (known : Known image) (i : ℕ) (s : LineState) → i < countOf image → deviceIn image i s ≡ deviceWith (kindAt image i) (bodyAt image i) s
-  unfolding deviceIn deviceAt placeIn
-  device-same known i s h =
-      let o = offsetAt image i in
-      let size = bodySize (kindAt image i) in
-      rw (lt-ltb i (countOf image) h, le-leb (o + size) (length image) (inside image known i h))
-      (ap (λ (m : ℕ). deviceWith (kindAt image i) (take m (drop o image)) s) (place-cut o size))
+  abbrev pub codesAt : ℕ → List ℕ
+  codesAt zero = s .codes
+  codesAt (suc k) = exchanges image k s .codes
 
-  devices-same : (known : Known image) (i : ℕ) (states : List LineState) → i + length states ≤ countOf image → devicesIn image i states ≡ devicesFrom image i states
-  unfolding devicesIn devicesFrom
-  devices-same known i [] h = refl
-  devices-same known i (s ∷ states) h =
-      let rest = devices-same known (suc i) states (omega arith) in
-      let one = device-same known i s (omega arith) in
-      λ j. one j ∷ rest j
+  pub held-length : (k : ℕ) → length (codesAt k) ≡ length (s .codes)
+  held-length zero = refl
+  held-length (suc k) = codes-length image k s
+
+  -- turn k's step is the one that exchange k starts from
+  pub step-is : s .step ≡ stepOf fresh 0 → (k : ℕ) → stepOf (masterAt k) (levelAt k) ≡ exchanges image k s .step
+  unfolding exchanges
+  step-is e zero = sym e
+  step-is e (suc k) = refl
+
+  -- the codes after turn k's step; the first completes none
+  abbrev pub codesStepped : ℕ → List ℕ
+  codesStepped k =
+      let m = masterAt k in
+      sets (codesAt k) (codeBytes * m .passes) (codeCompleted (m .passes) (nextOf m (levelAt k)))
+
+  pub codes-are : (k : ℕ) → codesStepped k ≡ exchanges image k s .codes
+  unfolding exchanges codeCompleted fresh M.afterLevel M.inRange M.stageInRange M.stepByStage M.withStage
+  codes-are zero = refl
+  codes-are (suc k) = refl
 
 -- ---- bytes at the front of a buffer, and bytes after them
 over-more : (xs vs buffer : List ℕ) → length (xs ++ vs) ≤ length buffer → sets (over xs buffer) (length xs) vs ≡ over (xs ++ vs) buffer
@@ -204,17 +220,18 @@ module _ (image codes₀ trace₀ : List ℕ) (lines₀ : List LineState) (ready
     taken : take n (s .lines) ≡ d .at
     taken = ap (take n) (d .lined) ∙ take-at (d .at) (drop n lines₀) n (d .going .each)
 
-    devices : devicesIn image 0 (take n (s .lines)) ≡ devicesFrom image 0 (d .at)
-    devices = ap (devicesIn image 0) taken ∙ devices-same image (accepted-known image (ready .accepted)) 0 (d .at) (let e = d .going .each in omega arith)
-
-    level-same : (e : ℕ) → levelOn image (s .lines) e ≡ G.levelIn image (d .at) e
+    level-same : (e : ℕ) → levelOn (s .lines) n e ≡ G.levelIn image (d .at) e
     unfolding levelOn
-    level-same e = ap (Bus.levelOf (eventOf e)) devices
+    level-same e =
+        ap (levelAsItIs (eventOf e)) taken ∙ level-in image (accepted-known image (ready .accepted)) (d .at) e (d .going .ranged)
 
-    lines-same : (e : ℕ) → statesAfter image (s .lines) e (G.levelIn image (d .at) e) ≡ linesAfter image (d .at) e ++ drop n lines₀
+    lines-same : (e : ℕ) → statesAfter image (s .lines) n e (G.levelIn image (d .at) e) ≡ linesAfter image (d .at) e ++ drop n lines₀
     unfolding statesAfter
     lines-same e =
-        ap (λ (ds : List Device). map (nextState (eventOf e) (G.levelIn image (d .at) e)) ds ++ drop n (s .lines)) devices
+        let level = G.levelIn image (d .at) e in
+        ap (λ (l : List LineState). turnedFrom image 0 l e level ++ drop n (s .lines)) taken
+        ∙ ap (λ (l : List LineState). l ++ drop n (s .lines))
+        (turned-in image (accepted-known image (ready .accepted)) 0 (d .at) e level (let c = d .going .each in omega arith) (d .going .ranged))
         ∙ ap (λ (l : List LineState). linesAfter image (d .at) e ++ l) (ap (drop n) (d .lined) ∙ drop-at (d .at) (drop n lines₀) n (d .going .each))
 
     doing-next : hasEvent (s .step .answer) ≡ true → Doing (suc k) (exchangeWith image k s (levelIn image s))
@@ -251,8 +268,16 @@ module _ (image codes₀ trace₀ : List ℕ) (lines₀ : List LineState) (ready
   doing zero h = doing-start
   doing (suc k) h = let d = doing k (omega arith) in doing-next d (must d (hasEvent (exchanges image k start .step .answer)) refl h)
 
-  pub goes : (k : ℕ) → k < N → hasEvent (exchanges image k start .step .answer) ≡ true
-  goes k h = must (doing k (omega arith)) (hasEvent (exchanges image k start .step .answer)) refl h
+  -- where there is an event there is another exchange, and where there is none all are made
+  pub goes : (k : ℕ) → k ≤ N → hasEvent (exchanges image k start .step .answer) ≡ true → k < N
+  goes k h e =
+      let d = doing k h in
+      let r = going-room image demand (sentIn image (exchanges image k start)) (d .going) (sends d e) in
+      let c = d .count in
+      omega arith
+
+  pub ends : (k : ℕ) → k ≤ N → hasEvent (exchanges image k start .step .answer) ≡ false → k ≡ N
+  ends k h e = let d = doing k h in sym (d .count) ∙ ap length (at-end d e .0)
 
   pub stops : hasEvent (exchanges image N start .step .answer) ≡ false
   stops = cannot (doing N (omega arith)) (hasEvent (exchanges image N start .step .answer)) refl (omega arith)

@@ -7,7 +7,7 @@ use native.Mathlib.Omega.{arith}
 use lib.ListN.{length, take, drop, replicate, length-replicate}
 use lib.Seq.{take-at, drop-at}
 use lib.Dec.{T, eqb, ltb}
-use borrow.Author.Tests.{ltb-false, le-ltb}
+use borrow.Author.Tests.{ltb-false}
 use Rattle.image.specs.Image.{countOf}
 use Rattle.image.specs.Refusal.{cause, firstOf, imageCauses, imageRefusal}
 use Rattle.device.specs.declared.LineState.{LineState}
@@ -15,8 +15,8 @@ use Rattle.device.specs.Device.{waitingState}
 use Rattle.master.specs.Master.{codeBytes}
 use Rattle.master.specs.Drive.{over}
 use Rattle.bus.specs.Run.{statesOf}
-use Rattle.bus.specs.Loops.{servedOf, filled}
-use Rattle.bus.proofs.Laws.{none-first, filled-length}
+use Rattle.bus.specs.Loops.{fewerOf, filled}
+use Rattle.bus.proofs.Laws.{none-first, filled-length, fewer-first}
 use Rattle.bus.proofs.Shown.{filled-is}
 use Rattle.discovery.specs.Search.{Search, searchOf}
 use Rattle.discovery.specs.Searched.{Searched, eventsFor}
@@ -47,7 +47,7 @@ module _ (image codes trace : List ℕ) (lines : List LineState) where
 
   -- the line states as they start
   abbrev pub begun : List LineState
-  begun = filled (servedOf image (length lines)) waitingState lines
+  begun = filled (fewerOf n (length lines)) waitingState lines
 
   accepted : number ≡ 0 → imageRefusal image ≡ 0
   unfolding searchRefusal searchCauses imageRefusal
@@ -62,13 +62,11 @@ module _ (image codes trace : List ℕ) (lines : List LineState) where
       (ltb-false (length codes) (codeBytes * n) (second .0), ltb-false (length trace) (eventsFor n) (second .1), ltb-false (length lines) n (first .1))
 
   begun-is : number ≡ 0 → begun ≡ replicate n waitingState ++ drop n lines
-  unfolding servedOf
   begun-is e =
-      let served : servedOf image (length lines) ≡ n = rw (le-ltb (length lines) n (room e .2)) in
-      ap (λ (m : ℕ). filled m waitingState lines) served ∙ filled-is n waitingState lines (room e .2)
+      ap (λ (m : ℕ). filled m waitingState lines) (fewer-first n (length lines) (room e .2)) ∙ filled-is n waitingState lines (room e .2)
 
   pub begun-length : length begun ≡ length lines
-  begun-length = filled-length (servedOf image (length lines)) waitingState lines
+  begun-length = filled-length (fewerOf n (length lines)) waitingState lines
 
   pub ready : Bytes image → number ≡ 0 → Ready image codes trace begun
   ready bytes e = record {

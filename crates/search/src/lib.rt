@@ -3,6 +3,7 @@
 // The image is only read. The loop over the exchanges sends what the master answers to the devices, and gives the level that they answer to
 // the master's next step; what is written and stored between is a function by value over the buffers.
 use device::LineState;
+use image::ACCEPTED;
 use master::Answer;
 use master::CODE_BYTES;
 use master::Master;
@@ -13,16 +14,16 @@ ghost use mathlib.Core.Path.{_≡_};
 ghost use Prim.Native.Nat.{_≤_, _<_, _+_, _*_};
 ghost use mathlib.Core.Bool.{cond, _&&_};
 ghost use mathlib.Core.List.{_++_};
-ghost use lib.ListN.{length, take, drop, set, getD};
+ghost use lib.ListN.{length, take, drop, getD};
 ghost use lib.Seq.{sets};
 ghost use Rattle.image.specs.Image.{countOf};
-ghost use Rattle.master.specs.Master.{codeBytes, fresh, nextOf, stepOf};
+ghost use Rattle.master.specs.Master.{codeBytes, nextOf, stepOf};
 ghost use Rattle.master.specs.Drive.{codeCompleted, over};
 ghost use Rattle.bits.specs.Bit.{levelByte};
 ghost use Rattle.bus.specs.Run.{statesOf};
 ghost use Rattle.discovery.specs.Search.{searchOf};
 ghost use Rattle.discovery.specs.Searched.{Searched, eventsFor};
-ghost use Rattle.discovery.specs.Words.{Bytes, isReset, slotNext, resetsIn, slotsIn, passesIn};
+ghost use Rattle.discovery.specs.Words.{Bytes, isReset, isSlot, resetsIn, slotsIn, passesIn};
 ghost use Rattle.search.specs.Refusal.{noSearchRoom, searchRefusal};
 ghost use Rattle.search.specs.Found.{foundIn, SearchLeaves, searchedOf};
 ghost use Rattle.search.specs.Exchange.{hasEvent, eventIn, Ready};
@@ -37,16 +38,7 @@ pub struct Found {
     pub slots: u64,
 }
 
-// The number of a search that is not refused.
-const ACCEPTED: u32 = 0;
-
 // ---- why a search is refused
-
-fn wide(byte: u8) -> usize
-    ensures { λ r. ⌜ r ≡ byte ⌝ }
-{
-    byte as usize
-}
 
 // The events of a search of n devices.
 fn trace_room(n: u8) -> usize
@@ -55,7 +47,7 @@ fn trace_room(n: u8) -> usize
     if n == 0 {
         return 1;
     }
-    PASS_EVENTS * wide(n)
+    PASS_EVENTS * bits::wide(n)
 }
 
 // Cause 7.
@@ -63,13 +55,13 @@ fn lacks_room(image: &[u8], codes: usize, trace: usize, lines: usize) -> bool
     ensures { λ r. ⌜ r ≡ noSearchRoom (now (image .entry)) codes trace lines ⌝ }
 {
     let n = image::count(image);
-    if codes < CODE_BYTES * wide(n) {
+    if codes < CODE_BYTES * bits::wide(n) {
         return true;
     }
     if trace < trace_room(n) {
         return true;
     }
-    lines < wide(n)
+    lines < bits::wide(n)
 }
 
 // Why a search is refused, 1 to 4 or 7; 0 where it is not. The image is bytes, as every slice of bytes is.
@@ -87,13 +79,6 @@ fn refusal(image: &[u8], codes: usize, trace: usize, lines: usize) -> u32
 }
 
 // ---- one exchange
-
-// The master's first step: whatever its level, it answers the reset.
-fn first_step() -> Step
-    ensures { λ r. ⌜ r ≡ stepOf fresh 0 ⌝ }
-{
-    Master::fresh().step(0)
-}
 
 // Whether a step answered an event, and not the end.
 fn has_event(step: Step) -> bool
@@ -124,24 +109,15 @@ fn level_byte(level: bool) -> u8
     if level { 1 } else { 0 }
 }
 
-// Writes an event that was sent, gives its level to the master, and stores the code that this step completed, if it completed one.
-fn next_step(
-    codes: &mut [u8],
-    trace: &mut [u8],
-    sent: usize,
-    step: Step,
-    event: u8,
-    level: bool,
-) -> Step
-    ensures { λ r. ⌜ (r ≡ stepOf (step .next) (levelByte level))
-        × (now (codes .exit) ≡ sets (now (codes .entry)) (codeBytes * step .next .passes) (codeCompleted (step .next .passes) (nextOf (step .next) (levelByte level))))
-        × (now (trace .exit) ≡ set (now (trace .entry)) sent event) ⌝ }
+// The master's step; the code that it completed, if it completed one, is stored. The search steps the master nowhere
+// else: the compiler inlines a function of this size only where it has one caller.
+fn stepped(codes: &mut [u8], master: Master, level: u8) -> Step
+    ensures { λ r. ⌜ (r ≡ stepOf master level)
+        × (now (codes .exit) ≡ sets (now (codes .entry)) (codeBytes * master .passes)
+        (codeCompleted (master .passes) (nextOf master level))) ⌝ }
 {
-    bits::put_byte(trace, sent, event);
-    let master = step.next();
     let completed = master.passes();
-    let given = level_byte(level);
-    let step = master.step(given);
+    let step = master.step(level);
     let next = step.next();
     master::keep_code(codes, completed, next);
     step
@@ -180,26 +156,21 @@ fn slots_in(trace: &[u8]) -> u64
 }
 
 // A reset with a slot right after it.
-fn begins_pass(trace: &[u8], i: usize) -> bool
-    requires { ⌜ i < length (now trace) ⌝ }
-    ensures { λ r. ⌜ r ≡ (isReset (getD (now (trace .entry)) i 0) && slotNext (drop (i + 1) (now (trace .entry)))) ⌝ }
+fn begins_pass(event: u8, after: u8) -> bool
+    ensures { λ r. ⌜ r ≡ (isReset event && isSlot after) ⌝ }
 {
-    if trace[i] != RESET {
-        return false;
-    }
-    if i + 1 < trace.len() {
-        return trace[i + 1] < RESET;
-    }
-    false
+    event == RESET && after < RESET
 }
 
+// The last event begins no pass, as none comes after it. Each turn reads two events whatever they are, so that the
+// compiler makes the loop one over vectors.
 fn passes_in(trace: &[u8]) -> u64
     ensures { λ r. ⌜ r ≡ passesIn (now (trace .entry)) ⌝ }
 {
     let mut count: u64 = 0;
     let mut i = 0;
-    while i < trace.len() {
-        count = count + one_if(begins_pass(trace, i));
+    while i + 1 < trace.len() {
+        count = count + one_if(begins_pass(trace[i], trace[i + 1]));
         i += 1;
     }
     count
@@ -223,8 +194,9 @@ fn tally(number: u32, trace: &[u8], sent: usize) -> Found
 
 // ---- the search
 
-// The exchanges of an image that is not refused, on devices that wait: each event goes to the devices as the one before left them, and the
-// level that they answer to the master's next step. Gives the number of events.
+// The exchanges of an image that is not refused, on devices that wait: each event that the master answers goes to the
+// devices as the one before left them, and the level that they answer to the master's next step. The first step is
+// given a level too, which it does not look at. Gives the number of events.
 fn exchange(image: &[u8], codes: &mut [u8], trace: &mut [u8], lines: &mut [LineState]) -> usize
     requires { ⌜ Ready (now image) (now codes) (now trace) (now lines) ⌝ }
     ensures { λ r. ⌜ (r ≡ length (searchOf (now (image .entry)) .trace))
@@ -232,14 +204,23 @@ fn exchange(image: &[u8], codes: &mut [u8], trace: &mut [u8], lines: &mut [LineS
         × (now (trace .exit) ≡ over (searchOf (now (image .entry)) .trace) (now (trace .entry)))
         × (now (lines .exit) ≡ statesOf (searchOf (now (image .entry)) .devices) ++ drop (countOf (now (image .entry))) (now (lines .entry))) ⌝ }
 {
-    let mut step = first_step();
+    let n = bus::device_count(image);
+    let mut master = Master::fresh();
+    let mut level: u8 = 0;
     let mut sent: usize = 0;
-    while has_event(step) {
-        let event = event_in(step);
-        let level = bus::level(image, lines, event);
-        bus::step_all(image, lines, event, level);
-        step = next_step(codes, trace, sent, step, event, level);
-        sent = sent + 1;
+    let mut going = true;
+    while going {
+        let step = stepped(codes, master, level);
+        master = step.next();
+        going = has_event(step);
+        if going {
+            let event = event_in(step);
+            bits::put_byte(trace, sent, event);
+            let line = bus::level(lines, n, event);
+            bus::step_all(image, lines, n, event, line);
+            level = level_byte(line);
+            sent = sent + 1;
+        }
     }
     sent
 }
@@ -252,7 +233,8 @@ pub fn search(image: &[u8], codes: &mut [u8], trace: &mut [u8], lines: &mut [Lin
     let number = refusal(image, codes.len(), trace.len(), lines.len());
     let mut sent: usize = 0;
     if number == ACCEPTED {
-        bus::wait_all(image, lines);
+        let n = bus::device_count(image);
+        bus::wait_all(lines, n);
         sent = exchange(image, codes, trace, lines);
     }
     tally(number, trace, sent)

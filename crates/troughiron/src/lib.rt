@@ -1,5 +1,6 @@
 // What a C program calls, on numbers and byte slices.
 use device::LineState;
+use image::ACCEPTED;
 use search::Found;
 ghost use mathlib.Core.Path.{_≡_};
 ghost use mathlib.Core.Bool.{cond};
@@ -7,9 +8,6 @@ ghost use Rattle.bits.specs.Crc.{registered};
 ghost use Rattle.discovery.specs.Search.{searchOf};
 ghost use Rattle.discovery.specs.Searched.{Searched};
 ghost use Rattle.troughiron.specs.Host.{HostRunLeaves, hostRun, OwnSearchLeaves, HostSearchLeaves, hostSearch};
-
-// The number of a search that is not refused.
-const ACCEPTED: u32 = 0;
 
 // The run, with 64 line states of its own: as many as an image has devices.
 #[no_mangle]

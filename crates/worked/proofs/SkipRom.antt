@@ -7,16 +7,18 @@ use native.Mathlib.Omega.{arith}
 use lib.ListN.{length, drop, replicate}
 use lib.Dec.{lit<}
 use borrow.Author.Tests.{ne-eqb}
-use Rattle.bits.specs.Bit.{shiftIn, levelByte}
+use Rattle.bits.specs.Bit.{levelByte}
+use Rattle.bits.specs.Levels.{spelled}
 use Rattle.kind.specs.Kind.{bodySize}
-use Rattle.line.specs.declared.RomStage.the-variants.{Waiting}
-use Rattle.line.specs.Names.{atMemoryCommand}
+use Rattle.line.specs.Transfers.{atMemoryCommand}
+use Rattle.line.specs.Slots.{shiftedOver}
 use Rattle.image.specs.Image.{countOf}
 use Rattle.image.specs.Refusal.{imageRefusal}
 use Rattle.image.proofs.Accepted.{accepted-known}
-use Rattle.rom.specs.Rom.{afterCommand, romCommand}
+use Rattle.rom.specs.Rom.{romCommand}
 use Rattle.device.specs.declared.LineState.{LineState}
 use Rattle.device.specs.Device.{lineState, waitingState, resetState}
+use Rattle.device.proofs.Search.{commanded}
 use Rattle.bus.specs.declared.Event.the-variants.{Slot, Reset}
 use Rattle.bus.specs.declared.Event.{Event}
 use Rattle.bus.specs.Bus.{Device, BusStep, eventOf, presence, levelOf, nextDevice, busStepAt, busStep, Run, withAnswer, runTrace}
@@ -24,7 +26,7 @@ use Rattle.bus.specs.Refusal.{someByte, badTrace, badPulse}
 use Rattle.bus.specs.Run.{waitingDevices, tableOfContents, bodiesOf, statesOf, runOutcome, leftByRun, runAt, runOf}
 use Rattle.bus.proofs.Laws.{not-refused}
 use Rattle.bus.proofs.Shown.{Stand, waiting-stands, waiting-all, waiting-image, waiting-states}
-use Rattle.discovery.proofs.Devices.{inState, Sized, active, device, stands, all-active, reset-all, rom-unwritten, commanded, command-level, command-after}
+use Rattle.discovery.proofs.Devices.{inState, Sized, active, device, stands, all-active, reset-all, waiting-unwritten, command-level, command-after, command-done}
 use Rattle.worked.specs.Table.{skipRom, skipAnswers}
 use Rattle.worked.specs.Examples.{presenceOf}
 
@@ -70,36 +72,41 @@ module _ (ds : List Device) (fit : Sized ds) where
   fits : Sized (map device (map active ds))
   fits = subst Sized (sym (all-active ds)) fit
 
-  -- a bit of the command: the line has the master's level, and every device takes it
-  slot-step : (bits value : ℕ) (sent : Bool) → bits < 8
-      → busStep (Slot sent) (all (commanded bits value) ds) ≡ record { level = sent; devices = all (lineState (afterCommand bits value sent)) ds }
-  unfolding busStep busStepAt
-  slot-step bits value sent h =
-      let e = all-stands (commanded bits value) ds in
-      let level : levelOf (Slot sent) (all (commanded bits value) ds) ≡ sent = subst (λ (es : List Device). levelOf (Slot sent) es ≡ sent) e (command-level bits value sent (map active ds) h fits) in
-      let after : map (nextDevice (Slot sent) sent) (all (commanded bits value) ds) ≡ all (lineState (afterCommand bits value sent)) ds =
-      ap (map (nextDevice (Slot sent) sent)) (sym e) ∙ command-after bits value sent (map active ds) h fits ∙ all-stands (lineState (afterCommand bits value sent)) ds in
-      ap (λ (l : Bool). busStepAt (Slot sent) l (all (commanded bits value) ds)) level ∙ ap (λ (es : List Device). record { level = sent; devices = es }) after
+  -- a slot in which the line has the level that the master sends, and every device goes to the same line state
+  slot-run : (s t : LineState) (sent : Bool) (byte : ℕ) (trace : List ℕ) → eventOf byte ≡ Slot sent
+      → levelOf (Slot sent) (stands s (map active ds)) ≡ sent → map (nextDevice (Slot sent) sent) (stands s (map active ds)) ≡ stands t (map active ds)
+      → runTrace (byte ∷ trace) (all s ds) ≡ withAnswer sent (runTrace trace (all t ds))
+  unfolding runTrace busStep busStepAt
+  slot-run s t sent byte trace e same next =
+      let level : levelOf (Slot sent) (all s ds) ≡ sent = subst (λ (es : List Device). levelOf (Slot sent) es ≡ sent) (all-stands s ds) same in
+      let after : map (nextDevice (Slot sent) sent) (all s ds) ≡ all t ds =
+      ap (map (nextDevice (Slot sent) sent)) (sym (all-stands s ds)) ∙ next ∙ all-stands t ds in
+      ap (λ (v : Event). withAnswer (busStep v (all s ds) .level) (runTrace trace (busStep v (all s ds) .devices))) e
+      ∙ ap (λ (l : Bool). withAnswer l (runTrace trace (map (nextDevice (Slot sent) l) (all s ds)))) level
+      ∙ ap (λ (es : List Device). withAnswer sent (runTrace trace es)) after
 
-  slot-run : (bits value : ℕ) (sent : Bool) (byte : ℕ) (trace : List ℕ) → eventOf byte ≡ Slot sent → bits < 8
-      → runTrace (byte ∷ trace) (all (commanded bits value) ds) ≡ withAnswer sent (runTrace trace (all (lineState (afterCommand bits value sent)) ds))
-  unfolding runTrace
-  slot-run bits value sent byte trace e h =
-      ap (λ (b : BusStep). withAnswer (b .level) (runTrace trace (b .devices)))
-      (ap (λ (v : Event). busStep v (all (commanded bits value) ds)) e ∙ slot-step bits value sent h)
+  -- a bit of the command
+  bit-run : (levels : List Bool) (sent : Bool) (byte : ℕ) (trace : List ℕ) → eventOf byte ≡ Slot sent → length levels < 7
+      → runTrace (byte ∷ trace) (all (commanded levels) ds) ≡ withAnswer sent (runTrace trace (all (commanded (levels ++ sent ∷ [])) ds))
+  bit-run levels sent byte trace e h =
+      slot-run (commanded levels) (commanded (levels ++ sent ∷ [])) sent byte trace e (command-level levels sent (map active ds) (omega arith) fits)
+      (command-after levels sent (map active ds) h fits)
 
   -- the eight bits of CCh
   command-run : runTrace (bitsFrom 0) (all resetState ds) ≡ record { answers = bitsFrom 0; devices = all (lineState atMemoryCommand) ds }
-  unfolding eventOf afterCommand romCommand shiftIn withAnswer levelByte runTrace
+  unfolding eventOf romCommand shiftedOver spelled withAnswer levelByte runTrace
   command-run =
-      slot-run 0 0x00 false 0 (bitsFrom 1) refl (lit< tt)
-      ∙ ap (withAnswer false) (slot-run 1 0x00 false 0 (bitsFrom 2) refl (lit< tt)
-      ∙ ap (withAnswer false) (slot-run 2 0x00 true 1 (bitsFrom 3) refl (lit< tt)
-      ∙ ap (withAnswer true) (slot-run 3 0x80 true 1 (bitsFrom 4) refl (lit< tt)
-      ∙ ap (withAnswer true) (slot-run 4 0xC0 false 0 (bitsFrom 5) refl (lit< tt)
-      ∙ ap (withAnswer false) (slot-run 5 0x60 false 0 (bitsFrom 6) refl (lit< tt)
-      ∙ ap (withAnswer false) (slot-run 6 0x30 true 1 (bitsFrom 7) refl (lit< tt)
-      ∙ ap (withAnswer true) (slot-run 7 0x98 true 1 (bitsFrom 8) refl (lit< tt))))))))
+      let three = false ∷ false ∷ true ∷ [] in
+      let seven = three ++ true ∷ false ∷ false ∷ true ∷ [] in
+      bit-run [] false 0 (bitsFrom 1) refl (lit< tt)
+      ∙ ap (withAnswer false) (bit-run (false ∷ []) false 0 (bitsFrom 2) refl (lit< tt)
+      ∙ ap (withAnswer false) (bit-run (false ∷ false ∷ []) true 1 (bitsFrom 3) refl (lit< tt)
+      ∙ ap (withAnswer true) (bit-run three true 1 (bitsFrom 4) refl (lit< tt)
+      ∙ ap (withAnswer true) (bit-run (three ++ true ∷ []) false 0 (bitsFrom 5) refl (lit< tt)
+      ∙ ap (withAnswer false) (bit-run (three ++ true ∷ false ∷ []) false 0 (bitsFrom 6) refl (lit< tt)
+      ∙ ap (withAnswer false) (bit-run (three ++ true ∷ false ∷ false ∷ []) true 1 (bitsFrom 7) refl (lit< tt)
+      ∙ ap (withAnswer true) (slot-run (commanded seven) (lineState atMemoryCommand) true 1 (bitsFrom 8) refl
+      (command-level seven true (map active ds) (lit< tt) fits) (command-done seven true (map active ds) refl fits))))))))
 
   -- the reset before them, of devices that wait
   reset-run : (trace : List ℕ) → runTrace (2 ∷ trace) (all waitingState ds) ≡ withAnswer (presence (all waitingState ds)) (runTrace trace (all resetState ds))
@@ -108,7 +115,7 @@ module _ (ds : List Device) (fit : Sized ds) where
       let level = presence (all waitingState ds) in
       let after : map (nextDevice Reset level) (all waitingState ds) ≡ all resetState ds =
       ap (map (nextDevice Reset level)) (sym (all-stands waitingState ds))
-      ∙ reset-all waitingState level (map active ds) (rom-unwritten Waiting)
+      ∙ reset-all waitingState level (map active ds) waiting-unwritten
       ∙ ap (λ (es : List Device). stands resetState (map active es)) (all-active ds)
       ∙ all-stands resetState ds in
       ap (λ (es : List Device). withAnswer level (runTrace trace es)) after

@@ -5,7 +5,7 @@ use mathlib.Core.Bool.{cond}
 use mathlib.Core.List.{List, [], _++_}
 use lib.ListN.{length, drop, replicate}
 use lib.Dec.{eqb}
-use Rattle.line.specs.Names.{atMemoryCommand}
+use Rattle.line.specs.Transfers.{atMemoryCommand}
 use Rattle.image.specs.Image.{countOf}
 use Rattle.image.specs.Refusal.{imageRefusal}
 use Rattle.device.specs.declared.LineState.{LineState}

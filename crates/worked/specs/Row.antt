@@ -3,8 +3,8 @@ use Prim.Native.Nat.{ℕ}
 use mathlib.Core.Path.{_≡_}
 use mathlib.Core.List.{List, [], _∷_, _++_}
 use lib.ListN.{length, replicate}
-use Rattle.line.specs.declared.Stage.{Stage}
-use Rattle.line.specs.Names.{atRomCommand, atMemoryCommand}
+use Rattle.line.specs.declared.Transfer.{Transfer}
+use Rattle.line.specs.Transfers.{atRomCommand, atMemoryCommand}
 use Rattle.image.specs.Image.{countOf}
 use Rattle.image.specs.Refusal.{imageRefusal}
 use Rattle.device.specs.declared.LineState.{LineState}
@@ -15,8 +15,8 @@ use Rattle.discovery.specs.Search.{searchOf}
 use Rattle.worked.specs.Session.{Step, reset, bitsOf, sentBy, seenBy}
 
 pub data Row : Type 0 where
-  -- a run: the image, the trace, the answers, the image afterwards, and the stage in which it leaves every device
-  run : List ℕ → List ℕ → List ℕ → List ℕ → Stage → Row
+  -- a run: the image, the trace, the answers, the image afterwards, and the transfer in which it leaves every device
+  run : List ℕ → List ℕ → List ℕ → List ℕ → Transfer → Row
   -- a search: the image, the codes in the order in which they are found, and the number of events
   search : List ℕ → List (List ℕ) → ℕ → Row
 
@@ -33,10 +33,10 @@ lentAnswers sent = replicate (length sent) 7
 abbrev pub lentLines : List ℕ → List LineState
 lentLines image = replicate (countOf image) (lineState atMemoryCommand)
 
--- the run is not refused, and it leaves this image, these answers, and every line state in this stage
-abbrev pub Runs : List ℕ → List ℕ → List ℕ → List ℕ → Stage → Type 0
-Runs image sent seen after stage =
-    runOf image sent (lentAnswers sent) (lentLines image) ≡ runOutcome 0 after seen (replicate (countOf image) (lineState stage))
+-- the run is not refused, and it leaves this image, these answers, and every line state in this transfer
+abbrev pub Runs : List ℕ → List ℕ → List ℕ → List ℕ → Transfer → Type 0
+Runs image sent seen after transfer =
+    runOf image sent (lentAnswers sent) (lentLines image) ≡ runOutcome 0 after seen (replicate (countOf image) (lineState transfer))
 
 -- ---- a search
 
@@ -68,7 +68,7 @@ pub record Finds (image : List ℕ) (codes : List (List ℕ)) (events : ℕ) : T
 -- ---- the table
 
 abbrev pub Right : Row → Type 0
-Right (run image sent seen after stage) = Runs image sent seen after stage
+Right (run image sent seen after transfer) = Runs image sent seen after transfer
 Right (search image codes events) = Finds image codes events
 
 -- every row of a table is right

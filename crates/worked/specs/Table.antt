@@ -2,7 +2,7 @@
 use Prim.Native.Nat.{ℕ}
 use mathlib.Core.List.{List, [], _∷_, _++_}
 use lib.ListN.{replicate}
-use Rattle.line.specs.Names.{waiting, atMemoryCommand}
+use Rattle.line.specs.Transfers.{waiting, atMemoryCommand}
 use Rattle.worked.specs.Session.{Step, pulse, write, writeBits, read, skip, select}
 use Rattle.worked.specs.Images.{ds1992Code, secondCode, ds1993Code, ds1982Code, zeros, ones, counting, sramBody, epromBody, noDevice, ds1992, ds1993, ds1982, blankDs1992, blankDs1993, blankDs1982, oneOfEach, twoDs1992, ds1992AndDs1982, placed}
 use Rattle.worked.specs.Row.{Row, run, search, session}

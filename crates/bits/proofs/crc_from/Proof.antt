@@ -21,25 +21,19 @@ loop-holds : tie.Need-loop-holds Inv-loop μ-loop
 unfolding crcFrom crcByte
 loop-holds c = (omega arith, refl)
 
-shared-slice-read-crc-byte : tie.Need-shared-slice-read-crc-byte Inv-loop μ-loop
-shared-slice-read-crc-byte c = search needs
-
-crc-byte-requires : tie.Need-crc-byte-requires Inv-loop μ-loop
-crc-byte-requires c κs = search needs
-
-add-i : tie.Need-add-i Inv-loop μ-loop
-add-i c = search needs
-
-loop-less : tie.Need-loop-less Inv-loop μ-loop
-loop-less c = search needs
-
 loop-again : tie.Need-loop-again Inv-loop μ-loop
 unfolding crcFrom crcByte
-loop-again c = (omega arith, rw (c .crc-byte .ensures, add-one) (rw (drop-cons (c .before .before .before .before .before .args .s .now) (c .before .before .before .loop .i) 0 (c .before .before .loop-test .taken)) at (c .before .before .before .loop .inv .1)))
+loop-again c =
+    let l = c .before .before .before .loop in
+    let s = c .before .before .before .before .before .args .s .now in
+    let d = drop-cons s (l .i) 0 (c .before .before .loop-test .taken) in
+    (omega arith, rw (c .crc-byte .ensures, add-one) (rw d at (l .inv .1)))
 
 returns : tie.Need-returns Inv-loop μ-loop
 unfolding crcFrom crcByte
-returns c = let e : c .before .loop .i ≡ length (c .before .before .before .args .s .now) = omega arith in rw (e, drop-length) at (c .before .loop .inv .1)
+returns c =
+    let e : c .before .loop .i ≡ length (c .before .before .before .args .s .now) = omega arith in
+    rw (e, drop-length) at (c .before .loop .inv .1)
 
 pub crc-from-spec : {M : Type 1} → statement M
 crc-from-spec =
@@ -48,9 +42,9 @@ crc-from-spec =
     Inv-loop
     μ-loop
     loop-holds
-    shared-slice-read-crc-byte
-    crc-byte-requires
-    add-i
-    loop-less
+    (λ c. search needs)
+    (λ c κs. search needs)
+    (λ c. search needs)
+    (λ c. search needs)
     loop-again
     returns)

@@ -4,9 +4,6 @@ use borrow.Author.Needs.{needs}
 use Rattle.bits.proofs.registration_check.Statement.{statement}
 use Rattle.bits.proofs.registration_check.Tie as tie
 
-crc-from-requires : tie.Need-crc-from-requires
-crc-from-requires c κs = search needs
-
 returns : tie.Need-returns
 unfolding registered
 returns c = simp (c .crc-from .ensures, eq-eqb _ _ (c .before .if1 .taken))
@@ -16,4 +13,4 @@ unfolding registered
 returns-2 c = simp (ne-eqb _ _ (c .if1 .left))
 
 pub registration-check-spec : {M : Type 1} → statement M
-registration-check-spec = tie.close (tie.spec crc-from-requires returns returns-2)
+registration-check-spec = tie.close (tie.spec (λ c κs. search needs) returns returns-2)

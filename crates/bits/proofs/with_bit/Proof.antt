@@ -15,54 +15,69 @@ returns : tie.Need-returns
 unfolding withBit
 returns c = simp (le-leb _ _ (c .if1 .taken))
 
-bit-of-requires : tie.Need-bit-of-requires
-bit-of-requires c κs = search needs
-
-power-requires : tie.Need-power-requires
-power-requires c κs = search needs
-
 sub-result : tie.Need-sub-result
 unfolding bitOf
 sub-result c =
     let a = c .before .before .before .before .before .args in
-    let set : a .byte / 2 ^ a .i % 2 ≡ 1 = eqb-true _ _ (sym (c .before .before .before .bit-of .ensures) ∙ c .before .before .if2 .taken) in
+    let set : a .byte / 2 ^ a .i % 2 ≡ 1 =
+    eqb-true _ _ (sym (c .before .before .before .bit-of .ensures) ∙ c .before .before .if2 .taken) in
     omega (arith, set-below (a .byte) (a .i) (c .before .before .before .before .if1 .left) set)
-
-power-requires-2 : tie.Need-power-requires-2
-power-requires-2 c κs = search needs
 
 add-result : tie.Need-add-result
 unfolding bitOf
 add-result c =
     let a = c .before .before .before .before .before .args in
-    let clear : (a .byte / 2 ^ a .i % 2 ≡ 1 → ⊥) = eqb-false _ _ (sym (c .before .before .before .bit-of .ensures) ∙ c .before .before .if2 .left) in
+    let clear : (a .byte / 2 ^ a .i % 2 ≡ 1 → ⊥) =
+    eqb-false _ _ (sym (c .before .before .before .bit-of .ensures) ∙ c .before .before .if2 .left) in
     omega (arith, clear-room (a .byte) (search needs) (a .i) (c .before .before .before .before .if1 .left) clear)
 
 returns-2 : tie.Need-returns-2
 unfolding withBit atLevel
-returns-2 c = simp (c .if3 .taken, sym (c .before .before .bit-of .ensures) ∙ c .before .if2 .taken, lt-leb _ _ (c .before .before .before .if1 .left))
+returns-2 c =
+    simp (
+      c .if3 .taken,
+      sym (c .before .before .bit-of .ensures) ∙ c .before .if2 .taken,
+      lt-leb _ _ (c .before .before .before .if1 .left),
+    )
 
 returns-3 : tie.Need-returns-3
 unfolding withBit atLevel
-returns-3 c = simp (c .power .ensures, c .before .if3 .left, sym (c .before .before .before .bit-of .ensures) ∙ c .before .before .if2 .taken, lt-leb _ _ (c .before .before .before .before .if1 .left))
+returns-3 c =
+    simp (
+      c .power .ensures,
+      c .before .if3 .left,
+      sym (c .before .before .before .bit-of .ensures) ∙ c .before .before .if2 .taken,
+      lt-leb _ _ (c .before .before .before .before .if1 .left),
+    )
 
 returns-4 : tie.Need-returns-4
 unfolding withBit atLevel
-returns-4 c = simp (c .power2 .ensures, c .before .if4 .taken, sym (c .before .before .before .bit-of .ensures) ∙ c .before .before .if2 .left, lt-leb _ _ (c .before .before .before .before .if1 .left))
+returns-4 c =
+    simp (
+      c .power2 .ensures,
+      c .before .if4 .taken,
+      sym (c .before .before .before .bit-of .ensures) ∙ c .before .before .if2 .left,
+      lt-leb _ _ (c .before .before .before .before .if1 .left),
+    )
 
 returns-5 : tie.Need-returns-5
 unfolding withBit atLevel
-returns-5 c = simp (c .if4 .left, sym (c .before .before .bit-of .ensures) ∙ c .before .if2 .left, lt-leb _ _ (c .before .before .before .if1 .left))
+returns-5 c =
+    simp (
+      c .if4 .left,
+      sym (c .before .before .bit-of .ensures) ∙ c .before .if2 .left,
+      lt-leb _ _ (c .before .before .before .if1 .left),
+    )
 
 pub with-bit-spec : {M : Type 1} → statement M
 with-bit-spec =
     tie.close
     (tie.spec
     returns
-    bit-of-requires
-    power-requires
+    (λ c κs. search needs)
+    (λ c κs. search needs)
     sub-result
-    power-requires-2
+    (λ c κs. search needs)
     add-result
     returns-2
     returns-3

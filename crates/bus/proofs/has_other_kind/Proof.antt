@@ -1,4 +1,4 @@
-use Rattle.bus.specs.Refusal.{isEprom}
+use Rattle.kind.specs.Kind.{isEprom}
 use Rattle.image.proofs.Laws.{some-at, some-more}
 use Rattle.image.specs.Refusal.{someBelow}
 use Rattle.image.specs.Image.{entryOf, kindAt, countOf}
@@ -18,18 +18,9 @@ Inv-loop image n i₀ i = (i ≤ countOf image) × (n ≡ countOf image) × (som
 abbrev μ-loop : tie.MeasureT-loop
 μ-loop image n i₀ i = n - i
 
-count-requires : tie.Need-count-requires Inv-loop μ-loop
-count-requires c κs = search needs
-
 loop-holds : tie.Need-loop-holds Inv-loop μ-loop
 unfolding someBelow
 loop-holds c = (omega arith, c .count .ensures, refl)
-
-entry-at-requires : tie.Need-entry-at-requires Inv-loop μ-loop
-entry-at-requires c κs = search needs
-
-is-eprom-requires : tie.Need-is-eprom-requires Inv-loop μ-loop
-is-eprom-requires c κs = search needs
 
 returns : tie.Need-returns Inv-loop μ-loop
 unfolding entryOf
@@ -39,12 +30,6 @@ returns c =
     let l = c .before .before .before .before .loop in
     let other : isEprom (kindAt image i) ≡ false = ap (λ (e : Entry). isEprom (e .kind)) (sym (c .before .before .entry-at .ensures)) ∙ sym (c .before .is-eprom .ensures) ∙ not-true _ (c .if1 .taken) in
     sym (some-at (λ i. not (isEprom (kindAt image i))) (countOf image) i (omega (arith, c .before .before .before .before .before .count .ensures)) (ap not other))
-
-add-i : tie.Need-add-i Inv-loop μ-loop
-add-i c = search needs
-
-loop-less : tie.Need-loop-less Inv-loop μ-loop
-loop-less c = search needs
 
 loop-again : tie.Need-loop-again Inv-loop μ-loop
 unfolding entryOf
@@ -67,12 +52,12 @@ has-other-kind-spec =
     (tie.spec
     Inv-loop
     μ-loop
-    count-requires
+    (λ c κs. search needs)
     loop-holds
-    entry-at-requires
-    is-eprom-requires
+    (λ c κs. search needs)
+    (λ c κs. search needs)
     returns
-    add-i
-    loop-less
+    (λ c. search needs)
+    (λ c. search needs)
     loop-again
     returns-2)

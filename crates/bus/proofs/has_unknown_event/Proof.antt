@@ -19,18 +19,6 @@ abbrev μ-loop : tie.MeasureT-loop
 loop-holds : tie.Need-loop-holds Inv-loop μ-loop
 loop-holds c = (omega arith, refl)
 
-shared-slice-read-either : tie.Need-shared-slice-read-either Inv-loop μ-loop
-shared-slice-read-either c = search needs
-
-either-requires : tie.Need-either-requires Inv-loop μ-loop
-either-requires c κs = search needs
-
-add-k : tie.Need-add-k Inv-loop μ-loop
-add-k c = search needs
-
-loop-less : tie.Need-loop-less Inv-loop μ-loop
-loop-less c = search needs
-
 loop-again : tie.Need-loop-again Inv-loop μ-loop
 loop-again c = (omega arith, rw (c .either .ensures) (byte-more (λ byte. ltb 3 byte) (c .before .before .before .before .before .args .trace .now) (c .before .before .before .loop .k) (c .before .before .before .loop .found) (c .before .before .loop-test .taken) (c .before .before .before .loop .inv .1)))
 
@@ -44,9 +32,9 @@ has-unknown-event-spec =
     Inv-loop
     μ-loop
     loop-holds
-    shared-slice-read-either
-    either-requires
-    add-k
-    loop-less
+    (λ c. search needs)
+    (λ c κs. search needs)
+    (λ c. search needs)
+    (λ c. search needs)
     loop-again
     returns)

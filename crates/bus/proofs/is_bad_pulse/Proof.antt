@@ -4,12 +4,6 @@ use borrow.Author.Needs.{needs}
 use Rattle.bus.proofs.is_bad_pulse.Statement.{statement}
 use Rattle.bus.proofs.is_bad_pulse.Tie as tie
 
-has-pulse-requires : tie.Need-has-pulse-requires
-has-pulse-requires c κs = search needs
-
-has-other-kind-requires : tie.Need-has-other-kind-requires
-has-other-kind-requires c κs = search needs
-
 returns : tie.Need-returns
 unfolding badPulse
 returns c = simp (c .has-other-kind .ensures, sym (c .before .before .has-pulse .ensures) ∙ c .before .if1 .taken)
@@ -20,4 +14,4 @@ returns-2 c = simp (sym (c .before .has-pulse .ensures) ∙ c .if1 .left)
 
 pub is-bad-pulse-spec : {M : Type 1} → statement M
 is-bad-pulse-spec =
-    tie.close (tie.spec has-pulse-requires has-other-kind-requires returns returns-2)
+    tie.close (tie.spec (λ c κs. search needs) (λ c κs. search needs) returns returns-2)

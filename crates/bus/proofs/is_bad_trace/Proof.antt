@@ -8,12 +8,9 @@ returns : tie.Need-returns
 unfolding badTrace
 returns c = simp (lt-ltb _ _ (c .if1 .taken))
 
-has-unknown-event-requires : tie.Need-has-unknown-event-requires
-has-unknown-event-requires c κs = search needs
-
 returns-2 : tie.Need-returns-2
 unfolding badTrace
 returns-2 c = simp (c .has-unknown-event .ensures, le-ltb _ _ (c .before .if1 .left))
 
 pub is-bad-trace-spec : {M : Type 1} → statement M
-is-bad-trace-spec = tie.close (tie.spec returns has-unknown-event-requires returns-2)
+is-bad-trace-spec = tie.close (tie.spec returns (λ c κs. search needs) returns-2)

@@ -14,21 +14,6 @@ use borrow.Author.Needs.{needs}
 use Rattle.bus.proofs.place_of.Statement.{statement}
 use Rattle.bus.proofs.place_of.Tie as tie
 
-count-requires : tie.Need-count-requires
-count-requires c κs = search needs
-
-wide-requires : tie.Need-wide-requires
-wide-requires c κs = search needs
-
-cast-entry-at : tie.Need-cast-entry-at
-cast-entry-at c = search needs
-
-entry-at-requires : tie.Need-entry-at-requires
-entry-at-requires c κs = search needs
-
-body-size-requires : tie.Need-body-size-requires
-body-size-requires c κs = search needs
-
 add-end : tie.Need-add-end
 unfolding entryOf
 add-end c =
@@ -73,11 +58,11 @@ pub place-of-spec : {M : Type 1} → statement M
 place-of-spec =
     tie.close
     (tie.spec
-    count-requires
-    wide-requires
-    cast-entry-at
-    entry-at-requires
-    body-size-requires
+    (λ c κs. search needs)
+    (λ c κs. search needs)
+    (λ c. search needs)
+    (λ c κs. search needs)
+    (λ c κs. search needs)
     add-end
     returns
     returns-2

@@ -6,31 +6,19 @@ use borrow.Author.Needs.{needs}
 use Rattle.bus.proofs.refusal.Statement.{statement}
 use Rattle.bus.proofs.refusal.Tie as tie
 
-refusal-requires : tie.Need-refusal-requires
-refusal-requires c κs = search needs
-
 returns : tie.Need-returns
 unfolding runRefusal runCauses imageRefusal
 returns c = c .before .refusal .ensures ∙ sym (first-some _ _ (λ z. c .if1 .taken (c .before .refusal .ensures ∙ z)))
-
-is-bad-trace-requires : tie.Need-is-bad-trace-requires
-is-bad-trace-requires c κs = search needs
 
 returns-2 : tie.Need-returns-2
 returns-2 c =
     let a = c .before .before .before .before .before .before .args in
     simp (run-causes (a .image .now) (a .trace .now) (a .answers) (a .lines) (sym (c .before .before .before .refusal .ensures) ∙ c .before .before .if1 .left), sym (c .before .is-bad-trace .ensures) ∙ c .if2 .taken)
 
-is-bad-pulse-requires : tie.Need-is-bad-pulse-requires
-is-bad-pulse-requires c κs = search needs
-
 returns-3 : tie.Need-returns-3
 returns-3 c =
     let a = c .before .before .before .before .before .before .before .before .args in
     simp (run-causes (a .image .now) (a .trace .now) (a .answers) (a .lines) (sym (c .before .before .before .before .before .refusal .ensures) ∙ c .before .before .before .before .if1 .left), sym (c .before .before .before .is-bad-trace .ensures) ∙ c .before .before .if2 .left, sym (c .before .is-bad-pulse .ensures) ∙ c .if3 .taken)
-
-lacks-room-requires : tie.Need-lacks-room-requires
-lacks-room-requires c κs = search needs
 
 returns-4 : tie.Need-returns-4
 returns-4 c =
@@ -46,12 +34,12 @@ pub refusal-spec : {M : Type 1} → statement M
 refusal-spec =
     tie.close
     (tie.spec
-    refusal-requires
+    (λ c κs. search needs)
     returns
-    is-bad-trace-requires
+    (λ c κs. search needs)
     returns-2
-    is-bad-pulse-requires
+    (λ c κs. search needs)
     returns-3
-    lacks-room-requires
+    (λ c κs. search needs)
     returns-4
     returns-5)

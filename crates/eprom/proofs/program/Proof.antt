@@ -3,33 +3,6 @@ use borrow.Author.Needs.{needs}
 use Rattle.eprom.proofs.program.Statement.{statement}
 use Rattle.eprom.proofs.program.Tie as tie
 
-enum-told : tie.Need-enum-told
-enum-told c = search needs
-
-enum-told-2 : tie.Need-enum-told-2
-enum-told-2 c = search needs
-
-enum-told-3 : tie.Need-enum-told-3
-enum-told-3 c = search needs
-
-enum-told-4 : tie.Need-enum-told-4
-enum-told-4 c = search needs
-
-enum-told-5 : tie.Need-enum-told-5
-enum-told-5 c = search needs
-
-enum-told-6 : tie.Need-enum-told-6
-enum-told-6 c = search needs
-
-enum-known-e : tie.Need-enum-known-e
-enum-known-e c = search needs
-
-program-byte-requires : tie.Need-program-byte-requires
-program-byte-requires c κs = search needs
-
-enum-told-7 : tie.Need-enum-told-7
-enum-told-7 c = search needs
-
 returns : tie.Need-returns
 unfolding epromProgram
 returns c = simp (c .enum-told .given .1)
@@ -54,36 +27,45 @@ returns-6 : tie.Need-returns-6
 unfolding epromProgram
 returns-6 c = simp (c .enum-told6 .given .1)
 
-same-length : tie.Need-same-length
-same-length c = search needs
-
 returns-7 : tie.Need-returns-7
 unfolding epromProgram
-returns-7 c = simp (c .before .before .program-byte .ensures, c .before .before .before .before .before .e .given .1)
+returns-7 c = simp (c .enum-told7 .given .1)
 
 returns-8 : tie.Need-returns-8
 unfolding epromProgram
-returns-8 c = simp (c .enum-told7 .given .1)
+returns-8 c = simp (c .enum-told8 .given .1)
+
+returns-9 : tie.Need-returns-9
+unfolding epromProgram
+returns-9 c = simp (c .before .before .program-byte .ensures, c .before .before .before .before .before .e .given .1)
+
+returns-10 : tie.Need-returns-10
+unfolding epromProgram
+returns-10 c = simp (c .enum-told9 .given .1)
 
 pub program-spec : {M : Type 1} → statement M
 program-spec =
     tie.close
     (tie.spec
-    enum-told
-    enum-told-2
-    enum-told-3
-    enum-told-4
-    enum-told-5
-    enum-told-6
-    enum-known-e
-    program-byte-requires
-    enum-told-7
+    (λ c. search needs)
+    (λ c. search needs)
+    (λ c. search needs)
+    (λ c. search needs)
+    (λ c. search needs)
+    (λ c. search needs)
+    (λ c. search needs)
+    (λ c. search needs)
+    (λ c. search needs)
+    (λ c κs. search needs)
+    (λ c. search needs)
     returns
     returns-2
     returns-3
     returns-4
     returns-5
     returns-6
-    same-length
     returns-7
-    returns-8)
+    returns-8
+    (λ c. search needs)
+    returns-9
+    returns-10)

@@ -2,7 +2,7 @@ use Rattle.image.specs.Image.{countOf}
 use Prim.Native.Nat.{ℕ}
 use mathlib.Core.Bool.{Bool, true}
 use mathlib.Core.Path.{sym, ap, _∙_}
-use Rattle.image.specs.Refusal.{malformed, unknown}
+use Rattle.image.specs.Refusal.{malformed}
 use borrow.Author.Needs.{needs}
 use mathlib.Core.Path.{refl}
 use native.Mathlib.Omega.{arith}
@@ -20,24 +20,12 @@ Inv-loop image n i₀ i = (i ≤ n) × (someBelow i (λ k. entryMalformed image 
 abbrev μ-loop : tie.MeasureT-loop
 μ-loop image n i₀ i = n - i
 
-count-requires : tie.Need-count-requires Inv-loop μ-loop
-count-requires c κs = search needs
-
 loop-holds : tie.Need-loop-holds Inv-loop μ-loop
-unfolding someBelow entryMalformed malformed unknown
+unfolding someBelow entryMalformed malformed
 loop-holds c = (omega arith, refl)
-
-is-entry-malformed-requires : tie.Need-is-entry-malformed-requires Inv-loop μ-loop
-is-entry-malformed-requires c κs = search needs
 
 returns : tie.Need-returns Inv-loop μ-loop
 returns c = sym (some-at _ _ (c .before .before .before .loop .i) (omega arith) (sym (c .before .is-entry-malformed .ensures) ∙ c .if1 .taken))
-
-add-i : tie.Need-add-i Inv-loop μ-loop
-add-i c = search needs
-
-loop-less : tie.Need-loop-less Inv-loop μ-loop
-loop-less c = search needs
 
 loop-again : tie.Need-loop-again Inv-loop μ-loop
 loop-again c =
@@ -58,11 +46,11 @@ has-malformed-entry-spec =
     (tie.spec
     Inv-loop
     μ-loop
-    count-requires
+    (λ c κs. search needs)
     loop-holds
-    is-entry-malformed-requires
+    (λ c κs. search needs)
     returns
-    add-i
-    loop-less
+    (λ c. search needs)
+    (λ c. search needs)
     loop-again
     returns-2)

@@ -14,15 +14,6 @@ use borrow.Author.Needs.{needs}
 use Rattle.image.proofs.is_code_refused.Statement.{statement}
 use Rattle.image.proofs.is_code_refused.Tie as tie
 
-offset-at-requires : tie.Need-offset-at-requires
-offset-at-requires c κs = search needs
-
-cast-start : tie.Need-cast-start
-cast-start c = search needs
-
-add-end : tie.Need-add-end
-add-end c = search needs
-
 returns : tie.Need-returns
 unfolding codeRefused
 returns c =
@@ -30,24 +21,6 @@ returns c =
     let i = c .before .before .before .args .i in
     let short : registered (codeAt image i) ≡ false = short-code image (offsetAt image i) (omega (arith, c .before .offset-at .ensures)) in
     simp short
-
-sub-registration-check : tie.Need-sub-registration-check
-sub-registration-check c = search needs
-
-part-registration-check-start : tie.Need-part-registration-check-start
-part-registration-check-start c = search needs
-
-part-registration-check-end : tie.Need-part-registration-check-end
-part-registration-check-end c = search needs
-
-registration-check-requires : tie.Need-registration-check-requires
-registration-check-requires c κs = search needs
-
-shared-slice-read-result : tie.Need-shared-slice-read-result
-shared-slice-read-result c = search needs
-
-family-at-requires : tie.Need-family-at-requires
-family-at-requires c κs = search needs
 
 returns-2 : tie.Need-returns-2
 unfolding codeRefused
@@ -81,15 +54,15 @@ pub is-code-refused-spec : {M : Type 1} → statement M
 is-code-refused-spec =
     tie.close
     (tie.spec
-    offset-at-requires
-    cast-start
-    add-end
+    (λ c κs. search needs)
+    (λ c. search needs)
+    (λ c. search needs)
     returns
-    sub-registration-check
-    part-registration-check-start
-    part-registration-check-end
-    registration-check-requires
-    shared-slice-read-result
-    family-at-requires
+    (λ c. search needs)
+    (λ c. search needs)
+    (λ c. search needs)
+    (λ c κs. search needs)
+    (λ c. search needs)
+    (λ c κs. search needs)
     returns-2
     returns-3)

@@ -19,25 +19,13 @@ Inv-loop image n j₀ j = (j ≤ n) × (someBelow j (λ k. repeated image k) ≡
 abbrev μ-loop : tie.MeasureT-loop
 μ-loop image n j₀ j = n - j
 
-count-requires : tie.Need-count-requires Inv-loop μ-loop
-count-requires c κs = search needs
-
 loop-holds : tie.Need-loop-holds Inv-loop μ-loop
 unfolding doubled someBelow repeated equalBytes
 loop-holds c = (omega arith, refl)
 
-is-repeated-requires : tie.Need-is-repeated-requires Inv-loop μ-loop
-is-repeated-requires c κs = search needs
-
 returns : tie.Need-returns Inv-loop μ-loop
 unfolding doubled
 returns c = sym (some-at _ _ (c .before .before .before .loop .j) (omega arith) (sym (c .before .is-repeated .ensures) ∙ c .if1 .taken))
-
-add-j : tie.Need-add-j Inv-loop μ-loop
-add-j c = search needs
-
-loop-less : tie.Need-loop-less Inv-loop μ-loop
-loop-less c = search needs
 
 loop-again : tie.Need-loop-again Inv-loop μ-loop
 loop-again c =
@@ -59,11 +47,11 @@ is-doubled-spec =
     (tie.spec
     Inv-loop
     μ-loop
-    count-requires
+    (λ c κs. search needs)
     loop-holds
-    is-repeated-requires
+    (λ c κs. search needs)
     returns
-    add-j
-    loop-less
+    (λ c. search needs)
+    (λ c. search needs)
     loop-again
     returns-2)

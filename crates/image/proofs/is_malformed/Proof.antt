@@ -11,18 +11,6 @@ use borrow.Author.Needs.{needs}
 use Rattle.image.proofs.is_malformed.Statement.{statement}
 use Rattle.image.proofs.is_malformed.Tie as tie
 
-count-requires : tie.Need-count-requires
-count-requires c κs = search needs
-
-wide-requires : tie.Need-wide-requires
-wide-requires c κs = search needs
-
-mul-if1 : tie.Need-mul-if1
-mul-if1 c = search needs
-
-add-if1 : tie.Need-add-if1
-add-if1 c = search needs
-
 returns : tie.Need-returns
 unfolding malformed
 returns c =
@@ -38,9 +26,6 @@ returns-2 c =
     let many : ltb 64 (countOf image) ≡ true = lt-ltb 64 (countOf image) (omega arith) in
     simp (short, many)
 
-edition-requires : tie.Need-edition-requires
-edition-requires c κs = search needs
-
 returns-3 : tie.Need-returns-3
 unfolding malformed
 returns-3 c =
@@ -49,9 +34,6 @@ returns-3 c =
     let many : ltb 64 (countOf image) ≡ false = le-ltb 64 (countOf image) (omega arith) in
     let other : eqb (editionOf image) 1 ≡ false = ne-eqb _ _ (λ e. c .if3 .taken (c .before .edition .ensures ∙ e)) in
     simp (short, many, other)
-
-has-malformed-entry-requires : tie.Need-has-malformed-entry-requires
-has-malformed-entry-requires c κs = search needs
 
 returns-4 : tie.Need-returns-4
 unfolding malformed
@@ -66,13 +48,13 @@ pub is-malformed-spec : {M : Type 1} → statement M
 is-malformed-spec =
     tie.close
     (tie.spec
-    count-requires
-    wide-requires
-    mul-if1
-    add-if1
+    (λ c κs. search needs)
+    (λ c κs. search needs)
+    (λ c. search needs)
+    (λ c. search needs)
     returns
     returns-2
-    edition-requires
+    (λ c κs. search needs)
     returns-3
-    has-malformed-entry-requires
+    (λ c κs. search needs)
     returns-4)

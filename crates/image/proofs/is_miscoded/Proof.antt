@@ -21,25 +21,13 @@ Inv-loop image n i₀ i = (i ≤ n) × (someBelow i (λ k. codeRefused image k) 
 abbrev μ-loop : tie.MeasureT-loop
 μ-loop image n i₀ i = n - i
 
-count-requires : tie.Need-count-requires Inv-loop μ-loop
-count-requires c κs = search needs
-
 loop-holds : tie.Need-loop-holds Inv-loop μ-loop
 unfolding miscoded someBelow codeRefused registered
 loop-holds c = (omega arith, refl)
 
-is-code-refused-requires : tie.Need-is-code-refused-requires Inv-loop μ-loop
-is-code-refused-requires c κs = search needs
-
 returns : tie.Need-returns Inv-loop μ-loop
 unfolding miscoded
 returns c = sym (some-at _ _ (c .before .before .before .loop .i) (omega arith) (sym (c .before .is-code-refused .ensures) ∙ c .if1 .taken))
-
-add-i : tie.Need-add-i Inv-loop μ-loop
-add-i c = search needs
-
-loop-less : tie.Need-loop-less Inv-loop μ-loop
-loop-less c = search needs
 
 loop-again : tie.Need-loop-again Inv-loop μ-loop
 loop-again c =
@@ -61,11 +49,11 @@ is-miscoded-spec =
     (tie.spec
     Inv-loop
     μ-loop
-    count-requires
+    (λ c κs. search needs)
     loop-holds
-    is-code-refused-requires
+    (λ c κs. search needs)
     returns
-    add-i
-    loop-less
+    (λ c. search needs)
+    (λ c. search needs)
     loop-again
     returns-2)

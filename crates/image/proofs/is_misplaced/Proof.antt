@@ -28,27 +28,9 @@ Inv-loop image n at₀ i₀ at i = (i ≤ n) × (at ≡ packedAt image i) × (so
 abbrev μ-loop : tie.MeasureT-loop
 μ-loop image n at₀ i₀ at i = n - i
 
-count-requires : tie.Need-count-requires Inv-loop μ-loop
-count-requires c κs = search needs
-
-wide-requires : tie.Need-wide-requires Inv-loop μ-loop
-wide-requires c κs = search needs
-
-mul-at : tie.Need-mul-at Inv-loop μ-loop
-mul-at c = search needs
-
-add-at : tie.Need-add-at Inv-loop μ-loop
-add-at c = search needs
-
 loop-holds : tie.Need-loop-holds Inv-loop μ-loop
 unfolding misplaced packedAt someBelow bodySize
 loop-holds c = (omega arith, omega arith, refl)
-
-offset-at-requires : tie.Need-offset-at-requires Inv-loop μ-loop
-offset-at-requires c κs = search needs
-
-cast-if1 : tie.Need-cast-if1 Inv-loop μ-loop
-cast-if1 c = search needs
 
 returns : tie.Need-returns Inv-loop μ-loop
 unfolding misplaced
@@ -58,23 +40,11 @@ returns c =
     let differs : eqb (offsetAt image (l .i)) (packedAt image (l .i)) ≡ false = ne-eqb _ _ (λ e. c .if1 .taken (c .before .offset-at .ensures ∙ e ∙ sym (l .inv .1))) in
     sym (ap (λ (b : Bool). b || not (eqb (length image) (packedAt image (countOf image)))) (some-at (λ k. not (eqb (offsetAt image k) (packedAt image k))) (countOf image) (l .i) (omega arith) (ap not differs)))
 
-kind-at-requires : tie.Need-kind-at-requires Inv-loop μ-loop
-kind-at-requires c κs = search needs
-
-body-size-requires : tie.Need-body-size-requires Inv-loop μ-loop
-body-size-requires c κs = search needs
-
 add-at-2 : tie.Need-add-at-2 Inv-loop μ-loop
 add-at-2 c =
     let image = c .before .before .before .before .before .before .before .before .before .args .image .now in
     let l = c .before .before .before .before .before .loop in
     omega (arith, packed-bound image (l .i), size-bound (familyAt image (l .i)), ap bodySize (c .before .kind-at .ensures))
-
-add-i : tie.Need-add-i Inv-loop μ-loop
-add-i c = search needs
-
-loop-less : tie.Need-loop-less Inv-loop μ-loop
-loop-less c = search needs
 
 loop-again : tie.Need-loop-again Inv-loop μ-loop
 loop-again c =
@@ -101,18 +71,18 @@ is-misplaced-spec =
     (tie.spec
     Inv-loop
     μ-loop
-    count-requires
-    wide-requires
-    mul-at
-    add-at
+    (λ c κs. search needs)
+    (λ c κs. search needs)
+    (λ c. search needs)
+    (λ c. search needs)
     loop-holds
-    offset-at-requires
-    cast-if1
+    (λ c κs. search needs)
+    (λ c. search needs)
     returns
-    kind-at-requires
-    body-size-requires
+    (λ c κs. search needs)
+    (λ c κs. search needs)
     add-at-2
-    add-i
-    loop-less
+    (λ c. search needs)
+    (λ c. search needs)
     loop-again
     returns-2)

@@ -23,18 +23,9 @@ loop-holds : tie.Need-loop-holds Inv-loop μ-loop
 unfolding repeated someBelow equalBytes
 loop-holds c = (omega arith, refl)
 
-same-code-requires : tie.Need-same-code-requires Inv-loop μ-loop
-same-code-requires c κs = search needs
-
 returns : tie.Need-returns Inv-loop μ-loop
 unfolding repeated
 returns c = sym (some-at _ _ (c .before .before .before .loop .i) (omega arith) (sym (c .before .same-code .ensures) ∙ c .if1 .taken))
-
-add-i : tie.Need-add-i Inv-loop μ-loop
-add-i c = search needs
-
-loop-less : tie.Need-loop-less Inv-loop μ-loop
-loop-less c = search needs
 
 loop-again : tie.Need-loop-again Inv-loop μ-loop
 loop-again c =
@@ -57,9 +48,9 @@ is-repeated-spec =
     Inv-loop
     μ-loop
     loop-holds
-    same-code-requires
+    (λ c κs. search needs)
     returns
-    add-i
-    loop-less
+    (λ c. search needs)
+    (λ c. search needs)
     loop-again
     returns-2)

@@ -4,29 +4,17 @@ use borrow.Author.Needs.{needs}
 use Rattle.image.proofs.refusal.Statement.{statement}
 use Rattle.image.proofs.refusal.Tie as tie
 
-is-malformed-requires : tie.Need-is-malformed-requires
-is-malformed-requires c κs = search needs
-
 returns : tie.Need-returns
 unfolding imageRefusal firstOf imageCauses
 returns c = simp (sym (c .before .is-malformed .ensures) ∙ c .if1 .taken)
-
-is-misplaced-requires : tie.Need-is-misplaced-requires
-is-misplaced-requires c κs = search needs
 
 returns-2 : tie.Need-returns-2
 unfolding imageRefusal firstOf imageCauses
 returns-2 c = simp (sym (c .before .is-misplaced .ensures) ∙ c .if2 .taken, sym (c .before .before .before .is-malformed .ensures) ∙ c .before .before .if1 .left)
 
-is-miscoded-requires : tie.Need-is-miscoded-requires
-is-miscoded-requires c κs = search needs
-
 returns-3 : tie.Need-returns-3
 unfolding imageRefusal firstOf imageCauses
 returns-3 c = simp (sym (c .before .is-miscoded .ensures) ∙ c .if3 .taken, sym (c .before .before .before .is-misplaced .ensures) ∙ c .before .before .if2 .left, sym (c .before .before .before .before .before .is-malformed .ensures) ∙ c .before .before .before .before .if1 .left)
-
-is-doubled-requires : tie.Need-is-doubled-requires
-is-doubled-requires c κs = search needs
 
 returns-4 : tie.Need-returns-4
 unfolding imageRefusal firstOf imageCauses
@@ -40,12 +28,12 @@ pub refusal-spec : {M : Type 1} → statement M
 refusal-spec =
     tie.close
     (tie.spec
-    is-malformed-requires
+    (λ c κs. search needs)
     returns
-    is-misplaced-requires
+    (λ c κs. search needs)
     returns-2
-    is-miscoded-requires
+    (λ c κs. search needs)
     returns-3
-    is-doubled-requires
+    (λ c κs. search needs)
     returns-4
     returns-5)

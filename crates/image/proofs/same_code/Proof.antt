@@ -30,33 +30,9 @@ Inv-loop image i j a b k₀ k = (k ≤ 8) × (someBelow k (λ q. not (eqb (getD 
 abbrev μ-loop : tie.MeasureT-loop
 μ-loop image i j a b k₀ k = 8 - k
 
-offset-at-requires : tie.Need-offset-at-requires Inv-loop μ-loop
-offset-at-requires c κs = search needs
-
-cast-a : tie.Need-cast-a Inv-loop μ-loop
-cast-a c = search needs
-
-offset-at-requires-2 : tie.Need-offset-at-requires-2 Inv-loop μ-loop
-offset-at-requires-2 c κs = search needs
-
-cast-b : tie.Need-cast-b Inv-loop μ-loop
-cast-b c = search needs
-
 loop-holds : tie.Need-loop-holds Inv-loop μ-loop
 unfolding equalBytes someBelow
 loop-holds c = (omega arith, refl)
-
-add-byte-at : tie.Need-add-byte-at Inv-loop μ-loop
-add-byte-at c = search needs
-
-byte-at-requires : tie.Need-byte-at-requires Inv-loop μ-loop
-byte-at-requires c κs = search needs
-
-add-byte-at-2 : tie.Need-add-byte-at-2 Inv-loop μ-loop
-add-byte-at-2 c = search needs
-
-byte-at-requires-2 : tie.Need-byte-at-requires-2 Inv-loop μ-loop
-byte-at-requires-2 c κs = search needs
 
 returns : tie.Need-returns Inv-loop μ-loop
 unfolding equalBytes
@@ -69,12 +45,6 @@ returns c =
     let differs : eqb (getD (codeAt image i) k 0) (getD (codeAt image j) k 0) ≡ false =
     ne-eqb _ _ (λ e. c .if1 .taken (read image k (c .before .before .byte-at .ensures) (c .before .before .before .before .before .before .offset-at .ensures) ∙ sym (code-byte image (offsetAt image i) k (omega arith)) ∙ e ∙ code-byte image (offsetAt image j) k (omega arith) ∙ sym (read image k (c .before .byte-at2 .ensures) (c .before .before .before .before .before .offset-at2 .ensures)))) in
     sym (ap not (some-at (λ q. not (eqb (getD (codeAt image i) q 0) (getD (codeAt image j) q 0))) 8 k (omega arith) (ap not differs)))
-
-add-k : tie.Need-add-k Inv-loop μ-loop
-add-k c = search needs
-
-loop-less : tie.Need-loop-less Inv-loop μ-loop
-loop-less c = search needs
 
 loop-again : tie.Need-loop-again Inv-loop μ-loop
 loop-again c =
@@ -100,17 +70,17 @@ same-code-spec =
     (tie.spec
     Inv-loop
     μ-loop
-    offset-at-requires
-    cast-a
-    offset-at-requires-2
-    cast-b
+    (λ c κs. search needs)
+    (λ c. search needs)
+    (λ c κs. search needs)
+    (λ c. search needs)
     loop-holds
-    add-byte-at
-    byte-at-requires
-    add-byte-at-2
-    byte-at-requires-2
+    (λ c. search needs)
+    (λ c κs. search needs)
+    (λ c. search needs)
+    (λ c κs. search needs)
     returns
-    add-k
-    loop-less
+    (λ c. search needs)
+    (λ c. search needs)
     loop-again
     returns-2)

@@ -4,12 +4,6 @@ use borrow.Author.Needs.{needs}
 use Rattle.master.proofs.after_pass.Statement.{statement}
 use Rattle.master.proofs.after_pass.Tie as tie
 
-enum-told : tie.Need-enum-told
-enum-told c = search needs
-
-enum-told-2 : tie.Need-enum-told-2
-enum-told-2 c = search needs
-
 returns : tie.Need-returns
 unfolding afterPass
 returns c = simp (c .enum-told .given .1)
@@ -23,4 +17,4 @@ unfolding afterPass
 returns-3 c = simp (le-ltb _ _ (c .if1 .left), c .before .enum-told2 .given .1)
 
 pub after-pass-spec : {M : Type 1} → statement M
-after-pass-spec = tie.close (tie.spec enum-told enum-told-2 returns returns-2 returns-3)
+after-pass-spec = tie.close (tie.spec (λ c. search needs) (λ c. search needs) returns returns-2 returns-3)

@@ -4,18 +4,6 @@ use borrow.Author.Needs.{needs}
 use Rattle.master.proofs.at_discrepancy.Statement.{statement}
 use Rattle.master.proofs.at_discrepancy.Tie as tie
 
-enum-told : tie.Need-enum-told
-enum-told c = search needs
-
-enum-known-last : tie.Need-enum-known-last
-enum-known-last c = search needs
-
-slice-aggregate-bit-at : tie.Need-slice-aggregate-bit-at
-slice-aggregate-bit-at c = search needs
-
-bit-at-requires : tie.Need-bit-at-requires
-bit-at-requires c κs = search needs
-
 returns : tie.Need-returns
 unfolding atDiscrepancy
 returns c = simp (c .bit-at .ensures, lt-ltb _ _ (c .before .before .if1 .taken), c .before .before .before .before .last .given .1)
@@ -32,10 +20,10 @@ pub at-discrepancy-spec : {M : Type 1} → statement M
 at-discrepancy-spec =
     tie.close
     (tie.spec
-    enum-told
-    enum-known-last
-    slice-aggregate-bit-at
-    bit-at-requires
+    (λ c. search needs)
+    (λ c. search needs)
+    (λ c. search needs)
+    (λ c κs. search needs)
     returns
     returns-2
     returns-3)

@@ -5,23 +5,11 @@ use borrow.Author.Needs.{needs}
 use Rattle.master.proofs.drive.Statement.{statement}
 use Rattle.master.proofs.drive.Tie as tie
 
-trace-room-requires : tie.Need-trace-room-requires
-trace-room-requires c κs = search needs
-
-refused-requires : tie.Need-refused-requires
-refused-requires c κs = search needs
-
 returns : tie.Need-returns
 unfolding noDriveRoom
 returns c =
     let short = rw (c .before .before .trace-room .ensures) at (c .before .if1 .taken) in
     drive-refused _ _ _ _ (c .refused .ensures) (rw (lt-ltb _ _ short))
-
-code-room-requires : tie.Need-code-room-requires
-code-room-requires c κs = search needs
-
-refused-requires-2 : tie.Need-refused-requires-2
-refused-requires-2 c κs = search needs
 
 returns-2 : tie.Need-returns-2
 unfolding noDriveRoom
@@ -29,15 +17,6 @@ returns-2 c =
     let room = rw (c .before .before .before .before .trace-room .ensures) at (c .before .before .before .if1 .left) in
     let short = rw (c .before .before .code-room .ensures) at (c .before .if2 .taken) in
     drive-refused _ _ _ _ (c .refused2 .ensures) (rw (le-ltb _ _ room, lt-ltb _ _ short))
-
-feed-requires : tie.Need-feed-requires
-feed-requires c κs = search needs
-
-same-length : tie.Need-same-length
-same-length c = search needs
-
-same-length-2 : tie.Need-same-length-2
-same-length-2 c = search needs
 
 returns-3 : tie.Need-returns-3
 unfolding noDriveRoom
@@ -51,13 +30,13 @@ pub drive-spec : {M : Type 1} → statement M
 drive-spec =
     tie.close
     (tie.spec
-    trace-room-requires
-    refused-requires
+    (λ c κs. search needs)
+    (λ c κs. search needs)
     returns
-    code-room-requires
-    refused-requires-2
+    (λ c κs. search needs)
+    (λ c κs. search needs)
     returns-2
-    feed-requires
-    same-length
-    same-length-2
+    (λ c κs. search needs)
+    (λ c. search needs)
+    (λ c. search needs)
     returns-3)

@@ -18,12 +18,6 @@ Inv-loop levels trace₀ codes₀ step₀ i₀ trace codes step i = (i ≤ lengt
 abbrev μ-loop : tie.MeasureT-loop
 μ-loop levels trace₀ codes₀ step₀ i₀ trace codes step i = length levels - i
 
-fresh-requires : tie.Need-fresh-requires Inv-loop μ-loop
-fresh-requires c κs = search needs
-
-step-requires : tie.Need-step-requires Inv-loop μ-loop
-step-requires c κs = search needs
-
 loop-holds : tie.Need-loop-holds Inv-loop μ-loop
 loop-holds c =
     let a = c .before .before .before .before .before .args in
@@ -36,17 +30,8 @@ loop-holds c =
           (sym made) (feeding-start (a .levels .now) (a .trace .now) (a .codes .now) (stepOf fresh 0 .answer) refl),
     )
 
-enum-known-answer : tie.Need-enum-known-answer Inv-loop μ-loop
-enum-known-answer c = search needs
-
 cast-t14 : tie.Need-cast-t14 Inv-loop μ-loop
 cast-t14 c = let few = reached-passes (c .before .before .before .before .loop .inv .3 .reached) in record { fits = omega arith }
-
-same-length : tie.Need-same-length Inv-loop μ-loop
-same-length c = search needs
-
-same-length-2 : tie.Need-same-length-2 Inv-loop μ-loop
-same-length-2 c = search needs
 
 returns : tie.Need-returns Inv-loop μ-loop
 returns c =
@@ -55,23 +40,8 @@ returns c =
     feeding-ended _
     (subst (λ (x : Answer). Feeding (a .levels .now) (a .trace .now) (a .codes .now) x (l .step .next) (l .i) (l .trace) (l .codes)) (c .before .answer .given .1) (l .inv .3))
 
-enum-known-answer-2 : tie.Need-enum-known-answer-2 Inv-loop μ-loop
-enum-known-answer-2 c = search needs
-
-put-byte-requires : tie.Need-put-byte-requires Inv-loop μ-loop
-put-byte-requires c κs = search needs
-
-add-t21 : tie.Need-add-t21 Inv-loop μ-loop
-add-t21 c = search needs
-
 cast-t22 : tie.Need-cast-t22 Inv-loop μ-loop
 cast-t22 c = let few = reached-passes (c .before .before .before .before .before .before .before .before .before .loop .inv .3 .reached) in record { fits = omega arith }
-
-same-length-3 : tie.Need-same-length-3 Inv-loop μ-loop
-same-length-3 c = search needs
-
-same-length-4 : tie.Need-same-length-4 Inv-loop μ-loop
-same-length-4 c = search needs
 
 returns-2 : tie.Need-returns-2 Inv-loop μ-loop
 returns-2 c =
@@ -82,24 +52,12 @@ returns-2 c =
     (subst (λ (x : Answer). Feeding (a .levels .now) (a .trace .now) (a .codes .now) x (l .step .next) (l .i) (l .trace) (l .codes)) (c .before .before .before .before .before .before .answer2 .given .1) (l .inv .3))
     (c .if1 .taken))
 
-shared-slice-read-step : tie.Need-shared-slice-read-step Inv-loop μ-loop
-shared-slice-read-step c = search needs
-
-step-requires-2 : tie.Need-step-requires-2 Inv-loop μ-loop
-step-requires-2 c κs = search needs
-
-keep-code-requires : tie.Need-keep-code-requires Inv-loop μ-loop
-keep-code-requires c κs = search needs
-
 add-i : tie.Need-add-i Inv-loop μ-loop
 add-i c =
     let start = c .before .before .before .before .before .before .before .before .before .before .before .before .before .before .before .before .before .before .before .before .before .before in
     let l = c .before .before .before .before .before .before .before .before .before .before .before .before .before .before .before .before .loop in
     let more = c .before .before .before .before .before .before .before .if1 .left in
     record { fits = omega arith }
-
-loop-less : tie.Need-loop-less Inv-loop μ-loop
-loop-less c = search needs
 
 loop-again : tie.Need-loop-again Inv-loop μ-loop
 loop-again c =
@@ -120,24 +78,24 @@ feed-spec =
     (tie.spec
     Inv-loop
     μ-loop
-    fresh-requires
-    step-requires
+    (λ c κs. search needs)
+    (λ c κs. search needs)
     loop-holds
-    enum-known-answer
+    (λ c. search needs)
     cast-t14
-    same-length
-    same-length-2
+    (λ c. search needs)
+    (λ c. search needs)
     returns
-    enum-known-answer-2
-    put-byte-requires
-    add-t21
+    (λ c. search needs)
+    (λ c κs. search needs)
+    (λ c. search needs)
     cast-t22
-    same-length-3
-    same-length-4
+    (λ c. search needs)
+    (λ c. search needs)
     returns-2
-    shared-slice-read-step
-    step-requires-2
-    keep-code-requires
+    (λ c. search needs)
+    (λ c κs. search needs)
+    (λ c κs. search needs)
     add-i
-    loop-less
+    (λ c. search needs)
     loop-again)

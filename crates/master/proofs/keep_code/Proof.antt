@@ -4,12 +4,6 @@ use borrow.Author.Needs.{needs}
 use Rattle.master.proofs.keep_code.Statement.{statement}
 use Rattle.master.proofs.keep_code.Tie as tie
 
-put-code-requires : tie.Need-put-code-requires
-put-code-requires c κs = search needs
-
-same-length : tie.Need-same-length
-same-length c = search needs
-
 returns : tie.Need-returns
 unfolding codeCompleted
 returns c = simp (c .before .before .put-code .ensures, lt-ltb _ _ (c .before .before .before .before .before .if1 .taken))
@@ -19,4 +13,4 @@ unfolding codeCompleted
 returns-2 c = simp (le-ltb _ _ (c .if1 .left))
 
 pub keep-code-spec : {M : Type 1} → statement M
-keep-code-spec = tie.close (tie.spec put-code-requires same-length returns returns-2)
+keep-code-spec = tie.close (tie.spec (λ c κs. search needs) (λ c. search needs) returns returns-2)

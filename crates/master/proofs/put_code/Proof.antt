@@ -17,26 +17,8 @@ Inv-loop codes₀ place code at i₀ codes i = (i ≤ 8) × (length codes ≡ le
 abbrev μ-loop : tie.MeasureT-loop
 μ-loop codes₀ place code at i₀ codes i = 8 - i
 
-mul-at : tie.Need-mul-at Inv-loop μ-loop
-mul-at c = search needs
-
 loop-holds : tie.Need-loop-holds Inv-loop μ-loop
 loop-holds c = (omega arith, refl, rw add-zero)
-
-add-put-byte : tie.Need-add-put-byte Inv-loop μ-loop
-add-put-byte c = search needs
-
-array-read-put-byte : tie.Need-array-read-put-byte Inv-loop μ-loop
-array-read-put-byte c = search needs
-
-put-byte-requires : tie.Need-put-byte-requires Inv-loop μ-loop
-put-byte-requires c κs = search needs
-
-add-i : tie.Need-add-i Inv-loop μ-loop
-add-i c = search needs
-
-loop-less : tie.Need-loop-less Inv-loop μ-loop
-loop-less c = search needs
 
 loop-again : tie.Need-loop-again Inv-loop μ-loop
 loop-again c =
@@ -44,9 +26,6 @@ loop-again c =
     let a = c .before .before .before .before .before .before .before .args in
     let eight : length (a .t3) ≡ 8 = search needs in
     (omega arith, omega arith, rw (c .before .before .put-byte .ensures) (store-next (l .codes) (a .t3) (8 * a .place) (l .i) (omega arith) ∙ l .inv .2))
-
-same-length : tie.Need-same-length Inv-loop μ-loop
-same-length c = search needs
 
 returns : tie.Need-returns Inv-loop μ-loop
 returns c =
@@ -61,13 +40,13 @@ put-code-spec =
     (tie.spec
     Inv-loop
     μ-loop
-    mul-at
+    (λ c. search needs)
     loop-holds
-    add-put-byte
-    array-read-put-byte
-    put-byte-requires
-    add-i
-    loop-less
+    (λ c. search needs)
+    (λ c. search needs)
+    (λ c κs. search needs)
+    (λ c. search needs)
+    (λ c. search needs)
     loop-again
-    same-length
+    (λ c. search needs)
     returns)

@@ -3,9 +3,6 @@ use borrow.Author.Needs.{needs}
 use Rattle.master.proofs.trace_room.Statement.{statement}
 use Rattle.master.proofs.trace_room.Tie as tie
 
-add-result : tie.Need-add-result
-add-result c = search needs
-
 returns : tie.Need-returns
 unfolding feedTraceRoom
 returns c = search needs
@@ -15,4 +12,4 @@ unfolding feedTraceRoom
 returns-2 c = search needs
 
 pub trace-room-spec : {M : Type 1} → statement M
-trace-room-spec = tie.close (tie.spec add-result returns returns-2)
+trace-room-spec = tie.close (tie.spec (λ c. search needs) returns returns-2)

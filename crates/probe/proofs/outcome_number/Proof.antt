@@ -3,18 +3,6 @@ use borrow.Author.Needs.{needs}
 use Rattle.probe.proofs.outcome_number.Statement.{statement}
 use Rattle.probe.proofs.outcome_number.Tie as tie
 
-enum-told : tie.Need-enum-told
-enum-told c = search needs
-
-enum-known-outcome : tie.Need-enum-known-outcome
-enum-known-outcome c = search needs
-
-end-number-requires : tie.Need-end-number-requires
-end-number-requires c κs = search needs
-
-enum-told-2 : tie.Need-enum-told-2
-enum-told-2 c = search needs
-
 returns : tie.Need-returns
 unfolding numbered
 returns c = simp (c .enum-told .given .1)
@@ -31,10 +19,10 @@ pub outcome-number-spec : {M : Type 1} → statement M
 outcome-number-spec =
     tie.close
     (tie.spec
-    enum-told
-    enum-known-outcome
-    end-number-requires
-    enum-told-2
+    (λ c. search needs)
+    (λ c. search needs)
+    (λ c κs. search needs)
+    (λ c. search needs)
     returns
     returns-2
     returns-3)

@@ -3,15 +3,6 @@ use borrow.Author.Needs.{needs}
 use Rattle.search.proofs.event_in.Statement.{statement}
 use Rattle.search.proofs.event_in.Tie as tie
 
-answer-requires : tie.Need-answer-requires
-answer-requires c κs = search needs
-
-enum-known-answer : tie.Need-enum-known-answer
-enum-known-answer c = search needs
-
-enum-told : tie.Need-enum-told
-enum-told c = search needs
-
 returns : tie.Need-returns
 unfolding eventIn
 returns c = search needs
@@ -21,4 +12,4 @@ unfolding eventIn
 returns-2 c = search needs
 
 pub event-in-spec : {M : Type 1} → statement M
-event-in-spec = tie.close (tie.spec answer-requires enum-known-answer enum-told returns returns-2)
+event-in-spec = tie.close (tie.spec (λ c κs. search needs) (λ c. search needs) (λ c. search needs) returns returns-2)

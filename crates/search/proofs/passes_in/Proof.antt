@@ -3,10 +3,9 @@ use mathlib.Core.Path.{_≡_, ap, _∙_}
 use mathlib.Core.Bool.{Bool, cond}
 use native.Mathlib.Omega.{arith}
 use lib.ListN.{length, drop}
-use lib.Seq.{drop-length}
 use borrow.Author.Needs.{needs}
 use Rattle.discovery.specs.Words.{passesIn}
-use Rattle.search.proofs.Counts.{passes-next}
+use Rattle.search.proofs.Counts.{passes-next, passes-end}
 use Rattle.search.proofs.passes_in.Statement.{statement}
 use Rattle.search.proofs.passes_in.Tie as tie
 
@@ -19,37 +18,24 @@ abbrev μ-loop : tie.MeasureT-loop
 loop-holds : tie.Need-loop-holds Inv-loop μ-loop
 loop-holds c = (omega arith, omega arith, omega arith)
 
-begins-pass-requires : tie.Need-begins-pass-requires Inv-loop μ-loop
-begins-pass-requires c κs = search needs
-
-one-if-requires : tie.Need-one-if-requires Inv-loop μ-loop
-one-if-requires c κs = search needs
-
 add-count : tie.Need-add-count Inv-loop μ-loop
-add-count c = let few = c .one-if .ensures .1 in let below = c .before .before .before .loop .inv .1 in search needs
-
-add-i : tie.Need-add-i Inv-loop μ-loop
-add-i c = search needs
-
-loop-less : tie.Need-loop-less Inv-loop μ-loop
-loop-less c = search needs
+add-count c = let few = c .one-if .ensures .1 in let below = c .before .before .before .before .before .loop .inv .1 in search needs
 
 loop-again : tie.Need-loop-again Inv-loop μ-loop
 loop-again c =
-    let l = c .before .before .before .loop in
-    let t = c .before .before .before .before .before .args .trace .now in
+    let l = c .before .before .before .before .before .loop in
+    let t = c .before .before .before .before .before .before .before .args .trace .now in
     let one = c .one-if .ensures .0 ∙ ap (λ (b : Bool). cond b 1 0) (c .before .begins-pass .ensures) in
     let few = c .one-if .ensures .1 in
-    let left = passes-next t (l .i) (c .before .before .loop-test .taken) in
+    let left = passes-next t (l .i) (c .before .before .before .before .loop-test .taken) in
     let so = l .inv .2 in
     (omega arith, omega arith, omega arith)
 
 returns : tie.Need-returns Inv-loop μ-loop
-unfolding passesIn
 returns c =
     let l = c .before .loop in
-    let e : l .i ≡ length (c .before .before .before .args .trace .now) = omega arith in
-    let so = rw (e, drop-length) at (l .inv .2) in
+    let none = passes-end (c .before .before .before .args .trace .now) (l .i) (omega arith) in
+    let so = l .inv .2 in
     omega arith
 
 pub passes-in-spec : {M : Type 1} → statement M
@@ -59,10 +45,14 @@ passes-in-spec =
     Inv-loop
     μ-loop
     loop-holds
-    begins-pass-requires
-    one-if-requires
+    (λ c. search needs)
+    (λ c. search needs)
+    (λ c. search needs)
+    (λ c. search needs)
+    (λ c κs. search needs)
+    (λ c κs. search needs)
     add-count
-    add-i
-    loop-less
+    (λ c. search needs)
+    (λ c. search needs)
     loop-again
     returns)

@@ -7,15 +7,9 @@ use borrow.Author.Needs.{needs}
 use Rattle.search.proofs.refusal.Statement.{statement}
 use Rattle.search.proofs.refusal.Tie as tie
 
-refusal-requires : tie.Need-refusal-requires
-refusal-requires c κs = search needs
-
 returns : tie.Need-returns
 unfolding searchRefusal searchCauses imageRefusal
 returns c = (c .before .refusal .ensures ∙ sym (first-some _ _ (λ z. c .if1 .taken (c .before .refusal .ensures ∙ z))), λ k. c .before .before .shared-slice-known .given k .fits)
-
-lacks-room-requires : tie.Need-lacks-room-requires
-lacks-room-requires c κs = search needs
 
 returns-2 : tie.Need-returns-2
 returns-2 c =
@@ -33,4 +27,4 @@ returns-3 c =
 
 pub refusal-spec : {M : Type 1} → statement M
 refusal-spec =
-    tie.close (tie.spec refusal-requires returns lacks-room-requires returns-2 returns-3)
+    tie.close (tie.spec (λ c κs. search needs) returns (λ c κs. search needs) returns-2 returns-3)

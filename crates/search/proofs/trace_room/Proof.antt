@@ -14,14 +14,8 @@ some-for (suc n) h = refl
 returns : tie.Need-returns
 returns c = simp (c .if1 .taken)
 
-wide-requires : tie.Need-wide-requires
-wide-requires c κs = search needs
-
-mul-result : tie.Need-mul-result
-mul-result c = search needs
-
 returns-2 : tie.Need-returns-2
 returns-2 c = simp (c .wide .ensures, some-for _ (c .before .if1 .left))
 
 pub trace-room-spec : {M : Type 1} → statement M
-trace-room-spec = tie.close (tie.spec returns wide-requires mul-result returns-2)
+trace-room-spec = tie.close (tie.spec returns (λ c κs. search needs) (λ c. search needs) returns-2)

@@ -1,30 +1,17 @@
-use Rattle.sram.specs.Body.{beginByte}
+use Rattle.sram.specs.Sram.{beginByte}
 use borrow.Author.Tests.{eq-eqb, ne-eqb}
 use borrow.Author.Needs.{needs}
 use Rattle.sram.proofs.begin_byte.Statement.{statement}
 use Rattle.sram.proofs.begin_byte.Tie as tie
 
-byte-at-requires : tie.Need-byte-at-requires
-byte-at-requires c κs = search needs
-
-mul-put-byte : tie.Need-mul-put-byte
-mul-put-byte c = search needs
-
-cast-put-byte : tie.Need-cast-put-byte
-cast-put-byte c = search needs
-
-add-put-byte : tie.Need-add-put-byte
-add-put-byte c = search needs
-
-put-byte-requires : tie.Need-put-byte-requires
-put-byte-requires c κs = search needs
-
-same-length : tie.Need-same-length
-same-length c = search needs
-
 returns : tie.Need-returns
 unfolding beginByte
-returns c = simp (c .before .before .put-byte .ensures, c .before .before .before .before .byte-at .ensures, eq-eqb _ _ (c .before .before .before .before .before .before .if1 .taken))
+returns c =
+    simp (
+      c .before .before .put-byte .ensures,
+      c .before .before .before .before .byte-at .ensures,
+      eq-eqb _ _ (c .before .before .before .before .before .before .if1 .taken),
+    )
 
 returns-2 : tie.Need-returns-2
 unfolding beginByte
@@ -34,11 +21,10 @@ pub begin-byte-spec : {M : Type 1} → statement M
 begin-byte-spec =
     tie.close
     (tie.spec
-    byte-at-requires
-    mul-put-byte
-    cast-put-byte
-    add-put-byte
-    put-byte-requires
-    same-length
+    (λ c κs. search needs)
+    (λ c. search needs)
+    (λ c. search needs)
+    (λ c κs. search needs)
+    (λ c. search needs)
     returns
     returns-2)

@@ -1,15 +1,9 @@
-use Rattle.sram.specs.Body.{endingOffset, target, targetOffset, copyLength}
-use borrow.Author.Tests.{lt-ltb, le-ltb, le-leb, lt-leb}
 use native.Mathlib.Omega.{arith}
+use borrow.Author.Tests.{lt-ltb, le-ltb, le-leb, lt-leb}
+use Rattle.sram.specs.Sram.{endingOffset, target, targetOffset, copyLength}
 use borrow.Author.Needs.{needs}
 use Rattle.sram.proofs.copy_length.Statement.{statement}
 use Rattle.sram.proofs.copy_length.Tie as tie
-
-target-offset-requires : tie.Need-target-offset-requires
-target-offset-requires c κs = search needs
-
-byte-at-requires : tie.Need-byte-at-requires
-byte-at-requires c κs = search needs
 
 returns : tie.Need-returns
 unfolding copyLength
@@ -17,41 +11,34 @@ returns c =
     let body = c .before .before .before .before .args .body .now in
     simp (lt-ltb (endingOffset body) (targetOffset body) (omega arith))
 
-target-requires : tie.Need-target-requires
-target-requires c κs = search needs
-
 returns-2 : tie.Need-returns-2
 unfolding copyLength
 returns-2 c =
     let body = c .before .before .before .before .before .before .args .body .now in
-    simp (le-ltb (endingOffset body) (targetOffset body) (omega arith), le-leb (c .before .before .before .before .before .before .args .size) (target body) (omega arith))
-
-add-result : tie.Need-add-result
-add-result c = search needs
-
-sub-result : tie.Need-sub-result
-sub-result c = search needs
+    let size = c .before .before .before .before .before .before .args .size in
+    simp (le-ltb (endingOffset body) (targetOffset body) (omega arith), le-leb size (target body) (omega arith))
 
 returns-3 : tie.Need-returns-3
 unfolding copyLength
 returns-3 c =
     let body = c .before .before .before .before .before .before .args .body .now in
+    let size = c .before .before .before .before .before .before .args .size in
     simp (
-      c .before .before .before .byte-at .ensures,
+      c .before .before .before .ending-offset .ensures,
       c .before .before .before .before .target-offset .ensures,
       le-ltb (endingOffset body) (targetOffset body) (omega arith),
-      lt-leb (c .before .before .before .before .before .before .args .size) (target body) (omega arith),
+      lt-leb size (target body) (omega arith),
     )
 
 pub copy-length-spec : {M : Type 1} → statement M
 copy-length-spec =
     tie.close
     (tie.spec
-    target-offset-requires
-    byte-at-requires
+    (λ c κs. search needs)
+    (λ c κs. search needs)
     returns
-    target-requires
+    (λ c κs. search needs)
     returns-2
-    add-result
-    sub-result
+    (λ c. search needs)
+    (λ c. search needs)
     returns-3)

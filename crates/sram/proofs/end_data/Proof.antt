@@ -1,40 +1,31 @@
-use Prim.Native.Nat.{_%_}
-use Rattle.sram.specs.Body.{endData}
-use borrow.Author.Tests.{lt-ltb, le-ltb}
-use mathlib.Core.Path.{_∙_, sym}
 use native.Mathlib.Omega.{arith}
+use mathlib.Core.Path.{_∙_, sym}
+use borrow.Author.Tests.{lt-ltb, le-ltb}
+use Rattle.sram.specs.Sram.{endData}
 use borrow.Author.Needs.{needs}
 use Rattle.sram.proofs.end_data.Statement.{statement}
 use Rattle.sram.proofs.end_data.Tie as tie
 
 returns : tie.Need-returns
 unfolding endData
-returns c = simp (le-ltb 0 (c .before .before .args .at % 8) (omega arith))
-
-bit-at-requires : tie.Need-bit-at-requires
-bit-at-requires c κs = search needs
-
-same-length : tie.Need-same-length
-same-length c = search needs
+returns c = simp (le-ltb 0 (c .before .before .args .sent) (omega arith))
 
 returns-2 : tie.Need-returns-2
 unfolding endData
-returns-2 c = simp (lt-ltb 0 (c .before .before .before .before .before .args .at % 8) (omega arith), sym (c .before .bit-at .ensures) ∙ c .if2 .taken)
-
-put-bit-requires : tie.Need-put-bit-requires
-put-bit-requires c κs = search needs
-
-same-length-2 : tie.Need-same-length-2
-same-length-2 c = search needs
+returns-2 c =
+    simp (
+      lt-ltb 0 (c .before .before .before .before .before .args .sent) (omega arith),
+      sym (c .before .bit-at .ensures) ∙ c .if2 .taken,
+    )
 
 returns-3 : tie.Need-returns-3
 unfolding endData
 returns-3 c =
-    let at = c .before .before .before .before .before .before .before .before .before .args .at in
+    let sent = c .before .before .before .before .before .before .before .before .before .args .sent in
     simp (
       c .before .before .put-bit .ensures,
       sym (c .before .before .before .before .before .bit-at .ensures) ∙ c .before .before .before .before .if2 .left,
-      lt-ltb 0 (at % 8) (omega arith),
+      lt-ltb 0 sent (omega arith),
     )
 
 pub end-data-spec : {M : Type 1} → statement M
@@ -42,9 +33,9 @@ end-data-spec =
     tie.close
     (tie.spec
     returns
-    bit-at-requires
-    same-length
+    (λ c κs. search needs)
+    (λ c. search needs)
     returns-2
-    put-bit-requires
-    same-length-2
+    (λ c κs. search needs)
+    (λ c. search needs)
     returns-3)

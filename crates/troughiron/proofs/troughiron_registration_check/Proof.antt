@@ -3,9 +3,6 @@ use borrow.Author.Needs.{needs}
 use Rattle.troughiron.proofs.troughiron_registration_check.Statement.{statement}
 use Rattle.troughiron.proofs.troughiron_registration_check.Tie as tie
 
-registration-check-requires : tie.Need-registration-check-requires
-registration-check-requires c κs = search needs
-
 returns : tie.Need-returns
 returns c = simp (sym (c .before .registration-check .ensures) ∙ c .if1 .taken)
 
@@ -14,4 +11,4 @@ returns-2 c = simp (sym (c .before .registration-check .ensures) ∙ c .if1 .lef
 
 pub troughiron-registration-check-spec : {M : Type 1} → statement M
 troughiron-registration-check-spec =
-    tie.close (tie.spec registration-check-requires returns returns-2)
+    tie.close (tie.spec (λ c κs. search needs) returns returns-2)

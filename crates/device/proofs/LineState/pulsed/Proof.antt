@@ -3,15 +3,9 @@ use borrow.Author.Needs.{needs}
 use Rattle.device.proofs.LineState.pulsed.Statement.{statement}
 use Rattle.device.proofs.LineState.pulsed.Tie as tie
 
-taken-requires : tie.Need-taken-requires
-taken-requires c κs = search needs
-
-stage-pulse-requires : tie.Need-stage-pulse-requires
-stage-pulse-requires c κs = search needs
-
 returns : tie.Need-returns
 unfolding stateAfterPulse
-returns c = simp (c .stage-pulse .ensures, c .before .taken .ensures)
+returns c = simp (c .pulsed-as-is .ensures, c .before .taken .ensures)
 
 pub pulsed-spec : {M : Type 1} → statement M
-pulsed-spec = tie.close (tie.spec taken-requires stage-pulse-requires returns)
+pulsed-spec = tie.close (tie.spec (λ c κs. search needs) (λ c κs. search needs) returns)

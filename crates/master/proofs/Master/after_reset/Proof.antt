@@ -4,22 +4,13 @@ use borrow.Author.Needs.{needs}
 use Rattle.master.proofs.Master.after_reset.Statement.{statement}
 use Rattle.master.proofs.Master.after_reset.Tie as tie
 
-with-stage-requires : tie.Need-with-stage-requires
-with-stage-requires c κs = search needs
-
 returns : tie.Need-returns
 unfolding afterReset
 returns c = simp (c .with-stage .ensures, eq-eqb _ _ (c .before .if2 .taken), c .before .before .if1 .taken)
 
-with-stage-requires-2 : tie.Need-with-stage-requires-2
-with-stage-requires-2 c κs = search needs
-
 returns-2 : tie.Need-returns-2
 unfolding afterReset
 returns-2 c = simp (c .with-stage2 .ensures, ne-eqb _ _ (c .before .if2 .left), c .before .before .if1 .taken)
-
-with-stage-requires-3 : tie.Need-with-stage-requires-3
-with-stage-requires-3 c κs = search needs
 
 returns-3 : tie.Need-returns-3
 unfolding afterReset
@@ -29,9 +20,9 @@ pub after-reset-spec : {M : Type 1} → statement M
 after-reset-spec =
     tie.close
     (tie.spec
-    with-stage-requires
+    (λ c κs. search needs)
     returns
-    with-stage-requires-2
+    (λ c κs. search needs)
     returns-2
-    with-stage-requires-3
+    (λ c κs. search needs)
     returns-3)

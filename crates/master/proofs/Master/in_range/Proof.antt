@@ -4,27 +4,6 @@ use borrow.Author.Needs.{needs}
 use Rattle.master.proofs.Master.in_range.Statement.{statement}
 use Rattle.master.proofs.Master.in_range.Tie as tie
 
-enum-told : tie.Need-enum-told
-enum-told c = search needs
-
-enum-told-2 : tie.Need-enum-told-2
-enum-told-2 c = search needs
-
-enum-known-stage : tie.Need-enum-known-stage
-enum-known-stage c = search needs
-
-enum-known-stage-2 : tie.Need-enum-known-stage-2
-enum-known-stage-2 c = search needs
-
-enum-known-stage-3 : tie.Need-enum-known-stage-3
-enum-known-stage-3 c = search needs
-
-enum-known-stage-4 : tie.Need-enum-known-stage-4
-enum-known-stage-4 c = search needs
-
-enum-told-3 : tie.Need-enum-told-3
-enum-told-3 c = search needs
-
 returns : tie.Need-returns
 unfolding inRange stageInRange
 returns c = simp (c .enum-told .given .1)
@@ -73,13 +52,13 @@ pub in-range-spec : {M : Type 1} → statement M
 in-range-spec =
     tie.close
     (tie.spec
-    enum-told
-    enum-told-2
-    enum-known-stage
-    enum-known-stage-2
-    enum-known-stage-3
-    enum-known-stage-4
-    enum-told-3
+    (λ c. search needs)
+    (λ c. search needs)
+    (λ c. search needs)
+    (λ c. search needs)
+    (λ c. search needs)
+    (λ c. search needs)
+    (λ c. search needs)
     returns
     returns-2
     returns-3

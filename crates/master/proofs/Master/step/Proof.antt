@@ -4,15 +4,9 @@ use borrow.Author.Needs.{needs}
 use Rattle.master.proofs.Master.step.Statement.{statement}
 use Rattle.master.proofs.Master.step.Tie as tie
 
-after-requires : tie.Need-after-requires
-after-requires c κs = search needs
-
-answer-of-requires : tie.Need-answer-of-requires
-answer-of-requires c κs = search needs
-
 returns : tie.Need-returns
 unfolding said
 returns c = simp (c .answer-of .ensures, c .before .after .ensures) (refl, refl)
 
 pub step-spec : {M : Type 1} → statement M
-step-spec = tie.close (tie.spec after-requires answer-of-requires returns)
+step-spec = tie.close (tie.spec (λ c κs. search needs) (λ c κs. search needs) returns)

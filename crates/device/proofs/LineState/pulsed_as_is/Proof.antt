@@ -1,0 +1,11 @@
+use Rattle.device.specs.Device.{pulseAsIs}
+use borrow.Author.Needs.{needs}
+use Rattle.device.proofs.LineState.pulsed_as_is.Statement.{statement}
+use Rattle.device.proofs.LineState.pulsed_as_is.Tie as tie
+
+returns : tie.Need-returns
+unfolding pulseAsIs
+returns c = simp (c .stage-pulse .ensures)
+
+pub pulsed-as-is-spec : {M : Type 1} → statement M
+pulsed-as-is-spec = tie.close (tie.spec (λ c κs. search needs) returns)

@@ -1,0 +1,9 @@
+use borrow.Author.Needs.{needs}
+use Rattle.device.proofs.LineState.shifted.Statement.{statement}
+use Rattle.device.proofs.LineState.shifted.Tie as tie
+
+returns : tie.Need-returns
+returns c = simp (c .shifted .ensures)
+
+pub shifted-spec : {M : Type 1} → statement M
+shifted-spec = tie.close (tie.spec (λ c κs. search needs) returns)

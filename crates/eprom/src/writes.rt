@@ -1,0 +1,128 @@
+// The writes 0Fh and 55h: the address, then pass by pass a data byte, its CRC, the program pulse and the stored byte.
+use crate::fields::command_crc;
+use crate::fields::cut;
+use crate::fields::field_length;
+use crate::fields::field_start;
+use crate::fields::in_eprom;
+use crate::fields::stored;
+use crate::fields::write_command;
+use kind::PAGE_LENGTH;
+use line::EpromStage;
+use line::Field;
+use line::Transfer;
+ghost use mathlib.Core.Path.{_≡_};
+ghost use Rattle.eprom.specs.Writes.{writeLow, writeHigh, writeData, writeLatch, afterData, awaitPulse};
+ghost use Rattle.eprom.specs.Writes.{protected, programmedByte, programmed, sendStored, nextPass};
+
+// Receives the low byte of the address.
+pub(crate) fn write_low(field: Field) -> Transfer
+    ensures { λ r. ⌜ r ≡ writeLow field ⌝ }
+{
+    line::listening(in_eprom(EpromStage::WriteLow { field }))
+}
+
+// Receives the high byte of the address.
+pub(crate) fn write_high(field: Field, low: u8) -> Transfer
+    ensures { λ r. ⌜ r ≡ writeHigh field low ⌝ }
+{
+    line::listening(in_eprom(EpromStage::WriteHigh { field, low }))
+}
+
+// Receives a data byte, which the CRC register `crc` then takes in.
+fn write_data(field: Field, address: u8, crc: u8) -> Transfer
+    ensures { λ r. ⌜ r ≡ writeData field address crc ⌝ }
+{
+    line::listening(in_eprom(EpromStage::WriteData {
+        field,
+        address,
+        crc,
+    }))
+}
+
+// The address was received: it is cut, and the first data byte comes next, after the command and the cut address.
+pub(crate) fn write_latch(field: Field, address: u16) -> Transfer
+    ensures { λ r. ⌜ r ≡ writeLatch field address ⌝ }
+{
+    let start = cut(field, address);
+    let crc = command_crc(write_command(field), start);
+    write_data(field, start as u8, crc)
+}
+
+// A data byte was received: its CRC is sent.
+pub(crate) fn after_data(field: Field, address: u8, crc: u8, byte: u8) -> Transfer
+    ensures { λ r. ⌜ r ≡ afterData field address crc byte ⌝ }
+{
+    line::sending(
+        in_eprom(EpromStage::WriteCrc {
+            field,
+            address,
+            byte,
+        }),
+        bits::crc_byte(crc, byte),
+    )
+}
+
+// A CRC was sent: a program pulse is due.
+pub(crate) fn await_pulse(field: Field, address: u8, byte: u8) -> Transfer
+    ensures { λ r. ⌜ r ≡ awaitPulse field address byte ⌝ }
+{
+    line::listening_once(in_eprom(EpromStage::PulseDue {
+        field,
+        address,
+        byte,
+    }))
+}
+
+// Whether the byte at an address is one that no pulse changes.
+fn protected(field: Field, address: u8, body: &[u8]) -> bool
+    ensures { λ r. ⌜ r ≡ protected field address (now (body .entry)) ⌝ }
+{
+    match field {
+        Field::Data => !bits::bit_of(stored(Field::Status, 0, body), address / PAGE_LENGTH),
+        Field::Status => false,
+    }
+}
+
+// What a pulse makes of the byte at an address.
+fn programmed_byte(field: Field, address: u8, byte: u8, body: &[u8]) -> u8
+    ensures { λ r. ⌜ r ≡ programmedByte field address byte (now (body .entry)) ⌝ }
+{
+    let old = stored(field, address, body);
+    if protected(field, address, body) {
+        old
+    } else {
+        old & byte
+    }
+}
+
+// Leaves the body as a pulse does at an address.
+pub(crate) fn program_byte(field: Field, address: u8, byte: u8, body: &mut [u8])
+    ensures { λ r. ⌜ now (body .exit) ≡ programmed field address byte (now (body .entry)) ⌝ }
+{
+    let new = programmed_byte(field, address, byte, body);
+    bits::put_byte(body, field_start(field) + address as usize, new);
+}
+
+// Sends the byte at an address as a pulse leaves it, while the body does not have it yet.
+pub(crate) fn send_programmed(field: Field, address: u8, byte: u8, body: &[u8]) -> Transfer
+    ensures { λ r. ⌜ r ≡ sendStored field address (programmed field address byte (now (body .entry))) ⌝ }
+{
+    line::sending(
+        in_eprom(EpromStage::Stored { field, address }),
+        programmed_byte(field, address, byte, body),
+    )
+}
+
+// The stored byte was sent: the next pass begins, with the CRC register loaded with the new address. After the last
+// address comes none.
+pub(crate) fn next_pass(field: Field, address: u8) -> Transfer
+    ensures { λ r. ⌜ r ≡ nextPass field address ⌝ }
+{
+    let last = field_length(field) - 1;
+    if address < last {
+        let next = address + 1;
+        write_data(field, next, next)
+    } else {
+        line::waiting()
+    }
+}

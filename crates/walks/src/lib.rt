@@ -1,0 +1,1 @@
+// What walks over a lent slice of structs share: this crate has no code, its proofs/ hold the lemmas.
