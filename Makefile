@@ -23,6 +23,7 @@ CFLAGS = -O2
 BUILD = target/command
 LIBRARY = target/staticlib/libtroughiron.a
 PROGRAM = $(BUILD)/troughiron
+LINKED = $(BUILD)/linked
 SONAME = libtroughiron.so.0
 SHARED = $(BUILD)/libtroughiron.so.$(VERSION)
 
@@ -42,21 +43,25 @@ HEADERS = command/bytes.h command/cause.h command/code.h command/commands.h comm
 all: library
 	@$(MAKE) VERSION='$(VERSION)' CC='$(CC)' CFLAGS='$(CFLAGS)' BUILD='$(BUILD)' LIBRARY='$(LIBRARY)' '$(PROGRAM)'
 
+# What is linked is known by its content, as the library is: an archive from elsewhere may be older than the program.
 library:
 	@command/library '$(LIBRARY)'
+	@mkdir -p '$(BUILD)'
+	@{ echo '$(LIBRARY)'; cksum <'$(LIBRARY)'; } >'$(LINKED).new'
+	@if cmp -s '$(LINKED).new' '$(LINKED)'; then rm '$(LINKED).new'; else mv '$(LINKED).new' '$(LINKED)'; fi
 
-$(PROGRAM): $(SOURCES) $(HEADERS) $(LIBRARY) Makefile
+$(PROGRAM): $(SOURCES) $(HEADERS) $(LINKED) Makefile
 	@mkdir -p '$(BUILD)'
 	$(CC) $(WARNINGS) $(CFLAGS) $(DEFINES) -Iinclude $(SOURCES) $(LDFLAGS) '$(LIBRARY)' -o '$(PROGRAM)'
 
-$(LIBRARY):
-	@command/library '$(LIBRARY)'
+$(LINKED):
+	@$(MAKE) BUILD='$(BUILD)' LIBRARY='$(LIBRARY)' library
 
 shared: library
 	@$(MAKE) VERSION='$(VERSION)' CC='$(CC)' BUILD='$(BUILD)' LIBRARY='$(LIBRARY)' '$(SHARED)'
 
 # All that it needs is in the archive.
-$(SHARED): $(LIBRARY) command/troughiron.map Makefile
+$(SHARED): $(LINKED) command/troughiron.map Makefile
 	@mkdir -p '$(BUILD)'
 	$(CC) -shared -Wl,-soname,$(SONAME) -Wl,-z,defs -Wl,--version-script=command/troughiron.map $(LDFLAGS) \
 	    -Wl,--whole-archive '$(LIBRARY)' -Wl,--no-whole-archive -o '$(SHARED)'

@@ -85,9 +85,10 @@ static const char check_help[] =
     "\n"
     "Checks a registration code and says in which order it was read:\n"
     "  08 000000000001 C6         family code, serial number as engraved, CRC\n"
-    "  08 01 00 00 00 00 00 C6    the bytes as the line has them; where the groups do not tell, the CRC does\n"
+    "  08 01 00 00 00 00 00 C6    the bytes as the line has them\n"
     "  08.000000000001            without a CRC\n"
-    "with blanks, dashes, dots and colons between the digits, and a report's #1 and DS1992 beside them.\n"
+    "with blanks, dashes, dots and colons between the digits, and a report's #1 and DS1992 beside them. The order is\n"
+    "that in which the CRC is right; where that does not tell, eight pairs of digits are in the order of the line.\n"
     "Ends with 0 for a valid code and with 3 for another.\n";
 
 const char *help_text(const char *command)

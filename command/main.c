@@ -29,7 +29,7 @@ static bool asks_for_help(const struct words *words)
 
 static int help(int count, char **words)
 {
-    const char *const command = count > 0 ? words[0] : "";
+    const char *const command = count > 0 && strcmp(words[0], "help") != 0 ? words[0] : "";
     const char *const text = help_text(command);
 
     return text ? print(text) : bad_usage("", "unknown command '%s'", command);

@@ -36,7 +36,7 @@ static int take_words(struct run *r, const struct words *words, const char *trac
     if (words->count != (trace ? 1 : 2))
         return words_wrong(words, trace ? "one image" : "an image and a session");
     r->image_path = words->list[0];
-    r->paths.replacing.own = r->image_path;
+    r->paths.replacing.own = strcmp(r->image_path, "-") == 0 ? NULL : r->image_path;
     r->session_path = trace ? trace : words->list[1];
     return same_standard_input(r);
 }

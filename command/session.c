@@ -14,10 +14,10 @@
 enum { SKIP_ROM = 0xCC, MATCH_ROM = 0x55 };
 
 /*
- * How far a text is read on when its trace is too long: a read of more bytes fits no trace, and the library refuses far fewer events. The
- * refusal is the library's; these only keep a short text from asking for all memory.
+ * How far a text is read on when its trace is too long: the library refuses far fewer events. The refusal is the library's; these only
+ * keep a short text from asking for all memory, and a text that never ends from being read for ever.
  */
-enum { LONGEST_READ = TROUGHIRON_MOST_EVENTS / 8, FAR_TOO_LONG = 32 * TROUGHIRON_MOST_EVENTS };
+enum { FAR_TOO_LONG = 32 * TROUGHIRON_MOST_EVENTS, LONGEST_READ = FAR_TOO_LONG / 8 + 1, LONGEST_TEXT = 64 << 20 };
 
 static const char blanks[] = " \t\r";
 
@@ -217,7 +217,7 @@ static int read_read(struct reader *r)
     size_t count;
 
     if (!word || !number_parse(&count, word, LONGEST_READ) || count == 0)
-        return wrong(r, "read", "a number of bytes from 1 to 4096", word);
+        return wrong(r, "read", "a number of bytes from 1 to 131073", word);
     for (size_t i = 0; i < 8 * count; i++)
         step_event(r->session, TROUGHIRON_WRITE_ONE);
     return nothing_after(r, "read");
@@ -345,10 +345,12 @@ static int read_lines(struct session *s, const struct bytes *image, char *text, 
 int session_read(struct session *s, const char *path, const struct bytes *image)
 {
     struct bytes text = { 0 };
-    int status = bytes_read(&text, path);
+    int status = bytes_read_most(&text, path, LONGEST_TEXT);
 
     s->name = input_name(path);
     s->unit = "line";
+    if (status == DONE && text.length > LONGEST_TEXT)
+        status = bad("%s: longer than %d bytes", s->name, LONGEST_TEXT);
     if (status == DONE) {
         const size_t length = text.length;
 

@@ -4,6 +4,10 @@
 
 #include <troughiron.h>
 
+#ifdef __cplusplus
+extern "C" {
+#endif
+
 /* The longest image: as many DS1993 as a bench can have. */
 enum { LINE_IMAGE = 2 + TROUGHIRON_MOST_DEVICES * (4 + 555) };
 
@@ -34,5 +38,9 @@ int line_pulse(struct line *l);              /* the program pulse: 1 */
 
 /* Puts the devices of an image on the line. Returns 0, or a refusal of the image, -1 to -4. */
 int line_open(struct line *l, const uint8_t *image, size_t length);
+
+#ifdef __cplusplus
+}
+#endif
 
 #endif
