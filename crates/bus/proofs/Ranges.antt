@@ -1,7 +1,7 @@
 -- Devices whose line states are in range: events keep them there, and there a line state taken as it is gives what document 01 says.
 -- Assumes nothing.
 --     InRange, AllIn           a device, or every device of a list, is in range
---     next-in, all-next-in     an event keeps them in range;  run-in  so does a run;  waiting-in  where a run starts
+--     next-in, all-next-in     an event keeps them in range;  run-in  so does a run
 --     as-it-is-state, -body    one device's next line state and body, worked out without the test
 --     level-as-it-is           the level of an event on devices in range
 use Prim.Native.Nat.{ℕ, zero, suc}
