@@ -1,5 +1,5 @@
--- Document 01, 'The trace and its levels': several slots of one transfer. The laws of a transfer
--- (`proofs/Transfers.antt`) are stated in these words.
+-- Several slots of one transfer (`Transfers.antt`, our own picture of 'The trace and its levels' of document 01).
+-- The laws of a transfer (`proofs/Transfers.antt`) are stated in these words.
 use mathlib.Core.Bool.{Bool}
 use mathlib.Core.List.{List, [], _∷_}
 use Rattle.line.specs.Transfers.{sends, shifted}

@@ -1,4 +1,5 @@
--- Document 01, 'The trace and its levels' and 'ROM stage': a device on the line goes by transfers of 1 to 8 slots.
+-- Document 01, 'The trace and its levels' and 'ROM stage', in a picture of our own: a device on the line goes by
+-- transfers of 1 to 8 slots, a word that the document does not use.
 -- Bits go least significant first, so in each slot a device sends the lowest bit of its shift register, and the level
 -- of the line comes in at the register's top. A device that listens sends ones meanwhile. `left` counts the slots
 -- left of the transfer.
