@@ -9,13 +9,14 @@
 .POSIX:
 
 # The same as in include/troughiron.h, which tests/install holds it to.
-VERSION = 0.1.0
+VERSION = 0.2.0
 PREFIX = /usr/local
 BINDIR = $(PREFIX)/bin
 LIBDIR = $(PREFIX)/lib
 INCLUDEDIR = $(PREFIX)/include
 MANDIR = $(PREFIX)/share/man
 DOCDIR = $(PREFIX)/share/doc/troughiron
+COMPLETIONDIR = $(PREFIX)/share/bash-completion/completions
 DIST = target/dist
 
 CC = cc
@@ -30,15 +31,22 @@ SHARED = $(BUILD)/libtroughiron.so.$(VERSION)
 WARNINGS = -std=c11 -Wall -Wextra -Werror
 DEFINES = -D_XOPEN_SOURCE=700
 
-SOURCES = command/bytes.c command/cause.c command/changes.c command/check.c command/code.c command/fields.c \
-    command/gtkwave.c command/help.c command/image.c command/interrupt.c command/kind.c command/main.c \
-    command/new.c command/options.c command/outputs.c command/progress.c command/record.c command/replace.c \
-    command/report.c command/run.c command/search.c command/session.c command/show.c command/status.c \
-    command/style.c command/transactions.c command/vcd.c
-HEADERS = command/bytes.h command/cause.h command/code.h command/commands.h command/event.h command/fields.h \
-    command/gtkwave.h command/image.h command/interrupt.h command/kind.h command/options.h command/outputs.h \
-    command/progress.h command/record.h command/replace.h command/report.h command/session.h command/status.h \
-    command/style.h command/transactions.h command/vcd.h include/troughiron.h
+SOURCES = command/bench.c command/blocks.c command/bytes.c command/cause.c command/changes.c command/check.c \
+    command/code.c command/copies.c command/crc.c command/ds2480b.c command/ds9097.c command/expect.c \
+    command/fields.c command/gtkwave.c command/held.c command/help.c command/image.c command/interrupt.c \
+    command/junit.c command/kind.c command/lines.c command/live.c command/main.c command/names.c command/new.c \
+    command/options.c command/outputs.c command/progress.c command/record.c command/recorder.c command/replace.c \
+    command/report.c command/run.c command/search.c command/serve.c command/session.c command/show.c \
+    command/sofar.c command/staging.c command/status.c command/steps.c command/style.c command/terminal.c \
+    command/test.c command/text.c command/transactions.c command/trial.c command/vcd.c command/verdict.c \
+    command/words.c examples/line.c
+HEADERS = command/adapter.h command/bench.h command/bytes.h command/cause.h command/code.h command/commands.h \
+    command/copies.h command/crc.h command/event.h command/fields.h command/gtkwave.h command/image.h \
+    command/interrupt.h command/junit.h command/kind.h command/live.h command/options.h command/outputs.h \
+    command/progress.h command/reader.h command/record.h command/recorder.h command/replace.h command/report.h \
+    command/session.h command/sofar.h command/staging.h command/status.h command/style.h command/terminal.h \
+    command/text.h command/transactions.h command/trial.h command/vcd.h command/verdict.h examples/line.h \
+    include/troughiron.h
 
 all: library
 	@$(MAKE) VERSION='$(VERSION)' CC='$(CC)' CFLAGS='$(CFLAGS)' BUILD='$(BUILD)' LIBRARY='$(LIBRARY)' '$(PROGRAM)'
@@ -68,11 +76,13 @@ $(SHARED): $(LINKED) command/troughiron.map Makefile
 
 # The folders are made as they are needed, so that a package can be put together anywhere.
 install: all
-	mkdir -p '$(DESTDIR)$(BINDIR)' '$(DESTDIR)$(LIBDIR)/pkgconfig' '$(DESTDIR)$(INCLUDEDIR)' '$(DESTDIR)$(MANDIR)/man1'
+	mkdir -p '$(DESTDIR)$(BINDIR)' '$(DESTDIR)$(LIBDIR)/pkgconfig' '$(DESTDIR)$(INCLUDEDIR)' \
+	    '$(DESTDIR)$(MANDIR)/man1' '$(DESTDIR)$(DOCDIR)'
 	install -m 755 '$(PROGRAM)' '$(DESTDIR)$(BINDIR)/troughiron'
 	install -m 644 '$(LIBRARY)' '$(DESTDIR)$(LIBDIR)/libtroughiron.a'
 	install -m 644 include/troughiron.h '$(DESTDIR)$(INCLUDEDIR)/troughiron.h'
 	install -m 644 man/troughiron.1 '$(DESTDIR)$(MANDIR)/man1/troughiron.1'
+	install -m 644 LICENSE '$(DESTDIR)$(DOCDIR)/LICENSE'
 	sed -e 's|@PREFIX@|$(PREFIX)|' -e 's|@LIBDIR@|$(LIBDIR)|' -e 's|@INCLUDEDIR@|$(INCLUDEDIR)|' \
 	    -e 's|@VERSION@|$(VERSION)|' command/troughiron.pc.in >'$(BUILD)/troughiron.pc'
 	install -m 644 '$(BUILD)/troughiron.pc' '$(DESTDIR)$(LIBDIR)/pkgconfig/troughiron.pc'
@@ -87,7 +97,9 @@ install-all: install shared
 	install -m 644 examples/*.c examples/*.h examples/*.out '$(DESTDIR)$(DOCDIR)/examples'
 	install -m 755 examples/run '$(DESTDIR)$(DOCDIR)/examples/run'
 	install -m 644 examples/sessions/*.session examples/sessions/*.out '$(DESTDIR)$(DOCDIR)/examples/sessions'
-	install -m 755 examples/sessions/run '$(DESTDIR)$(DOCDIR)/examples/sessions/run'
+	mkdir -p '$(DESTDIR)$(DOCDIR)/python' '$(DESTDIR)$(COMPLETIONDIR)'
+	install -m 644 python/troughiron.py python/example.py '$(DESTDIR)$(DOCDIR)/python'
+	install -m 644 command/completion.bash '$(DESTDIR)$(COMPLETIONDIR)/troughiron'
 
 dist:
 	@command/dist '$(DIST)' '$(VERSION)' CC='$(CC)' CFLAGS='$(CFLAGS)' LDFLAGS='$(LDFLAGS)' BUILD='$(BUILD)' \
@@ -102,7 +114,8 @@ uninstall:
 	    '$(DESTDIR)$(MANDIR)/man1/troughiron.1' '$(DESTDIR)$(LIBDIR)/pkgconfig/troughiron.pc' \
 	    '$(DESTDIR)$(LIBDIR)/libtroughiron.so.$(VERSION)' '$(DESTDIR)$(LIBDIR)/$(SONAME)' \
 	    '$(DESTDIR)$(LIBDIR)/libtroughiron.so' '$(DESTDIR)$(LIBDIR)/libtroughiron.a.sources' \
-	    '$(DESTDIR)$(DOCDIR)/GUIDE.md'
+	    '$(DESTDIR)$(DOCDIR)/GUIDE.md' '$(DESTDIR)$(DOCDIR)/LICENSE' '$(DESTDIR)$(DOCDIR)/python/troughiron.py' \
+	    '$(DESTDIR)$(DOCDIR)/python/example.py' '$(DESTDIR)$(COMPLETIONDIR)/troughiron'
 	cd examples && for file in *.c *.h *.out run sessions/*; do rm -f '$(DESTDIR)$(DOCDIR)/examples/'"$$file"; done
 
 clean:

@@ -22,7 +22,8 @@ struct side {
     uint8_t image[BENCH_ROOM];
     uint8_t answers[TRACE_ROOM]; /* of a search: the trace that it sent */
     uint8_t codes[MOST_DEVICES * CODE_BYTES];
-    uint64_t passes, resets, slots;
+    uint64_t passes, resets, slots; /* of a search */
+    uint64_t copied;                /* of a run: bytes */
 };
 
 typedef uint32_t call(struct side *s, const struct trace *t);
@@ -30,13 +31,13 @@ typedef uint32_t call(struct side *s, const struct trace *t);
 static uint32_t library_run(struct side *s, const struct trace *t)
 {
     return troughiron_run(s->image, s->image_length, t->events, t->length,
-                          s->answers, sizeof s->answers);
+                          s->answers, sizeof s->answers, &s->copied);
 }
 
 static uint32_t run_of_second(struct side *s, const struct trace *t)
 {
     return second_run(s->image, s->image_length, t->events, t->length,
-                      s->answers, sizeof s->answers);
+                      s->answers, sizeof s->answers, &s->copied);
 }
 
 static uint32_t library_search(struct side *s, const struct trace *t)

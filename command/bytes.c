@@ -4,7 +4,6 @@
 
 #include <errno.h>
 #include <fcntl.h>
-#include <stdarg.h>
 #include <stdio.h>
 #include <stdlib.h>
 #include <string.h>
@@ -50,22 +49,29 @@ void bytes_repeat(struct bytes *b, uint8_t byte, size_t count)
     b->length += count;
 }
 
+void bytes_vprint(struct bytes *b, const char *format, va_list arguments)
+{
+    va_list again;
+
+    va_copy(again, arguments);
+
+    const int length = vsnprintf(NULL, 0, format, arguments);
+
+    if (length < 0)
+        out_of_memory();
+    make_room(b, (size_t)length + 1);
+    vsnprintf((char *)b->data + b->length, (size_t)length + 1, format, again);
+    va_end(again);
+    b->length += (size_t)length;
+}
+
 void bytes_print(struct bytes *b, const char *format, ...)
 {
     va_list arguments;
 
     va_start(arguments, format);
-
-    const int length = vsnprintf(NULL, 0, format, arguments);
-
+    bytes_vprint(b, format, arguments);
     va_end(arguments);
-    if (length < 0)
-        out_of_memory();
-    make_room(b, (size_t)length + 1);
-    va_start(arguments, format);
-    vsnprintf((char *)b->data + b->length, (size_t)length + 1, format, arguments);
-    va_end(arguments);
-    b->length += (size_t)length;
 }
 
 void bytes_free(struct bytes *b)
@@ -77,6 +83,18 @@ void bytes_free(struct bytes *b)
 const char *input_name(const char *path)
 {
     return strcmp(path, "-") == 0 ? "standard input" : path;
+}
+
+char *path_beside(const char *other, const char *name)
+{
+    const char *const slash = other && *name != '/' ? strrchr(other, '/') : NULL;
+    const size_t folder = slash ? (size_t)(slash + 1 - other) : 0;
+    char *const path = grown(NULL, folder + strlen(name) + 1, 1);
+
+    if (folder > 0)
+        memcpy(path, other, folder);
+    strcpy(path + folder, name);
+    return path;
 }
 
 /* Reads on until there are more bytes than most. */

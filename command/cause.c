@@ -16,18 +16,35 @@ static const uint8_t *entry_at(const struct bytes *image, size_t index)
     return image->data + TABLE + ENTRY_SIZE * index;
 }
 
-/* Entries and devices are counted from 1, bytes from 0. */
+/* Entries and devices are counted from 1, bytes from 0. Returns DONE where the entry is no cause. */
+static int one_entry_cause(const char *name, const struct bytes *image, size_t i, uint32_t refusal)
+{
+    const uint8_t *const entry = entry_at(image, i);
+    const size_t place = TABLE + ENTRY_SIZE * i;
+    const struct kind *const kind = kind_of_family(entry[0]);
+
+    if (image->data[1] == EDITION && entry[1] != TROUGHIRON_GOOD)
+        return refused(name, refusal, "entry %zu: byte %zu is %02Xh and, in edition 1, not 00h", i + 1, place + 1,
+                       entry[1]);
+    if (entry[1] > TROUGHIRON_FLAT)
+        return refused(name, refusal, "entry %zu: byte %zu is %02Xh and neither 00h, good, nor 01h, flat", i + 1,
+                       place + 1, entry[1]);
+    if (!kind)
+        return refused(name, refusal, "entry %zu: byte %zu, the family, is %02Xh and none of 08h, 06h and 09h", i + 1,
+                       place, entry[0]);
+    if (kind->add_only && entry[1] != TROUGHIRON_GOOD)
+        return refused(name, refusal, "entry %zu: byte %zu says flat, and a %s has no battery", i + 1, place + 1,
+                       kind->name);
+    return DONE;
+}
+
 static int entry_cause(const char *name, const struct bytes *image, uint32_t refusal)
 {
     for (size_t i = 0; i < image_count(image); i++) {
-        const uint8_t *const entry = entry_at(image, i);
-        const size_t place = TABLE + ENTRY_SIZE * i;
+        const int status = one_entry_cause(name, image, i, refusal);
 
-        if (entry[1] != 0)
-            return refused(name, refusal, "entry %zu: byte %zu is %02Xh and not 00h", i + 1, place + 1, entry[1]);
-        if (!kind_of_family(entry[0]))
-            return refused(name, refusal, "entry %zu: byte %zu, the family, is %02Xh and none of 08h, 06h and 09h",
-                           i + 1, place, entry[0]);
+        if (status != DONE)
+            return status;
     }
     return refused(name, refusal, "the table of contents");
 }
@@ -39,8 +56,8 @@ static int table_cause(const char *name, const struct bytes *image, uint32_t ref
 
     if (length < TABLE)
         return refused(name, refusal, "it has %zu byte%s, and an image 2 at least", length, length == 1 ? "" : "s");
-    if (image->data[1] != IMAGE_EDITION)
-        return refused(name, refusal, "byte 1, the edition, is %02Xh and not 01h", image->data[1]);
+    if (image->data[1] != EDITION && image->data[1] != EDITION_WITH_FLAT)
+        return refused(name, refusal, "byte 1, the edition, is %02Xh and neither 01h nor 02h", image->data[1]);
     if (count > TROUGHIRON_MOST_DEVICES)
         return refused(name, refusal, "byte 0 says %zu devices, and %d are the most", count,
                        TROUGHIRON_MOST_DEVICES);
@@ -122,8 +139,8 @@ int image_refused(const char *name, const struct bytes *image, uint32_t refusal)
 /* ------------------------------------------------------------------ */
 /* Of a run                                                            */
 
-/* Where an event is: "line 3" of a session, "byte 17" of raw events. */
-enum { WHERE = 32 };
+/* Where an event is: "line 3" of a session, or of a text that it includes, "byte 17" of raw events. */
+enum { WHERE = 256 };
 static void write_where(char where[WHERE], const struct session *s, size_t event)
 {
     size_t i = 0;
@@ -132,8 +149,10 @@ static void write_where(char where[WHERE], const struct session *s, size_t event
         i++;
     if (s->raw)
         snprintf(where, WHERE, "byte %zu", event);
-    else
+    else if (s->steps[i].file == s->name)
         snprintf(where, WHERE, "%s %zu", s->unit, s->steps[i].line);
+    else
+        snprintf(where, WHERE, "%s %zu of %s", s->unit, s->steps[i].line, s->steps[i].file);
 }
 
 /* The place of the first event of at least a number, or the number of events. */
@@ -162,6 +181,16 @@ static int trace_cause(const struct session *s, uint32_t refusal)
     return refused(s->name, refusal, "%s: %u is no event; they are 0 to 3", where, s->events.data[place]);
 }
 
+static int begin_cause(const struct session *s, uint32_t refusal)
+{
+    const bool pulse = s->events.data[0] == TROUGHIRON_PULSE;
+    char where[WHERE];
+
+    write_where(where, s, 0);
+    return refused(s->name, refusal, "%s: a %s comes first, and a trace begins with a reset", where,
+                   pulse ? "program pulse" : "slot");
+}
+
 static int pulse_cause(const struct session *s, const struct bytes *image, uint32_t refusal)
 {
     char where[WHERE];
@@ -179,6 +208,8 @@ int run_refused(const struct session *s, const struct bytes *image, size_t room,
     switch (refusal) {
     case TROUGHIRON_REFUSED_TRACE:
         return trace_cause(s, refusal);
+    case TROUGHIRON_REFUSED_NO_RESET:
+        return begin_cause(s, refusal);
     case TROUGHIRON_REFUSED_PULSE:
         return pulse_cause(s, image, refusal);
     case TROUGHIRON_REFUSED_ROOM:

@@ -1,4 +1,6 @@
-/* Which cause of a refusal is there. That there is one is the library's word; here it is only looked for, to be named. */
+/*
+ * Which cause of a refusal is there. That there is one is the library's word; here it is only looked for, to be named.
+ */
 #ifndef CAUSE_H
 #define CAUSE_H
 

@@ -74,7 +74,10 @@ static void wire_order(uint8_t code[CODE_SIZE], const char *digits)
         code[i] = (uint8_t)(16 * digit_value(digits[2 * i]) + digit_value(digits[2 * i + 1]));
 }
 
-/* Sixteen digits say by the CRC which order they are in; where that does not tell, bytes that stand alone are in wire order. */
+/*
+ * Sixteen digits say by the CRC which order they are in; where that does not tell, bytes that stand alone are in wire
+ * order.
+ */
 static enum reading whole_code(uint8_t code[CODE_SIZE], const struct written *w)
 {
     uint8_t engraved[CODE_SIZE], wire[CODE_SIZE];
@@ -142,7 +145,8 @@ static int check_code(uint8_t code[CODE_SIZE], enum reading reading)
 
 static int not_a_code(const char *text)
 {
-    return bad("check: a code such as '08 000000000001 C6', '08 01 00 00 00 00 00 C6' or '08.000000000001' expected, not '%s'",
+    return bad("check: a code such as '08 000000000001 C6', '08 01 00 00 00 00 00 C6' or '08.000000000001' expected, "
+               "not '%s'",
                text);
 }
 

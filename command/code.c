@@ -59,8 +59,8 @@ bool code_parse(uint8_t code[CODE_SIZE], const char *text)
 
 void code_write(char text[CODE_TEXT], const uint8_t code[CODE_SIZE])
 {
-    snprintf(text, CODE_TEXT, "%02X %02X%02X%02X%02X%02X%02X %02X", code[0], code[6], code[5], code[4], code[3], code[2],
-             code[1], code[7]);
+    snprintf(text, CODE_TEXT, "%02X %02X%02X%02X%02X%02X%02X %02X", code[0], code[6], code[5], code[4], code[3],
+             code[2], code[1], code[7]);
 }
 
 void code_complete(uint8_t code[CODE_SIZE])

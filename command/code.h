@@ -1,4 +1,7 @@
-/* Registration codes: 8 bytes, and their text: family code, serial number as engraved, with its highest byte first, CRC. */
+/*
+ * Registration codes: 8 bytes, and their text: family code, serial number as engraved, with its highest byte first,
+ * CRC.
+ */
 #ifndef CODE_H
 #define CODE_H
 

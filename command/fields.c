@@ -2,6 +2,8 @@
 
 #include "troughiron.h"
 
+#include <strings.h>
+
 struct field kind_field(const struct kind *kind, size_t index)
 {
     if (index == 1)
@@ -11,19 +13,26 @@ struct field kind_field(const struct kind *kind, size_t index)
     return (struct field){ "scratchpad", SCRATCHPAD, PAGE_SIZE, 2 };
 }
 
+static const struct flag flags[] = {
+    { TROUGHIRON_ES_AA, "AA", "authorization accepted" },
+    { TROUGHIRON_ES_OF, "OF", "overflow" },
+    { TROUGHIRON_ES_PF, "PF", "partial byte" },
+};
+
+enum { FLAGS = sizeof flags / sizeof *flags };
+
+const struct flag *flag_named(const char *name)
+{
+    for (size_t i = 0; i < FLAGS; i++)
+        if (strcasecmp(name, flags[i].name) == 0)
+            return &flags[i];
+    return NULL;
+}
+
 void print_es(FILE *out, uint8_t es)
 {
-    static const struct {
-        uint8_t bit;
-        const char *name;
-    } flags[] = {
-        { TROUGHIRON_ES_AA, "AA (authorization accepted)" },
-        { TROUGHIRON_ES_OF, "OF (overflow)" },
-        { TROUGHIRON_ES_PF, "PF (partial byte)" },
-    };
-
     fprintf(out, "%02Xh: ending offset %02Xh", es, es & TROUGHIRON_ES_ENDING);
-    for (size_t i = 0; i < sizeof flags / sizeof *flags; i++)
+    for (size_t i = 0; i < FLAGS; i++)
         if (es & flags[i].bit)
-            fprintf(out, ", %s", flags[i].name);
+            fprintf(out, ", %s (%s)", flags[i].name, flags[i].meaning);
 }

@@ -17,6 +17,15 @@ struct field {
 enum { FIELDS = 2 };
 struct field kind_field(const struct kind *kind, size_t index);
 
+/* A flag of E/S. */
+struct flag {
+    uint8_t bit;
+    const char *name, *meaning;
+};
+
+/* The flag of a name, which may be in small letters, or null. */
+const struct flag *flag_named(const char *name);
+
 /* Writes "87h: ending offset 07h, AA (authorization accepted)". */
 void print_es(FILE *out, uint8_t es);
 

@@ -66,13 +66,19 @@ void save_write(struct bytes *out, const char *vcd)
     free(save);
 }
 
+static void step_write(struct bytes *out, const struct session *s, const struct step *step)
+{
+    bytes_print(out, "%zu %s %zu: ", step_number(s, step), s->unit, step->line);
+    for (const char *c = step->text; *c; c++)
+        bytes_repeat(out, *c >= ' ' && *c <= '~' ? (uint8_t)*c : '_', 1);
+    bytes_repeat(out, '\n', 1);
+}
+
+/* A line that is repeated is there so many times, always with the same text. */
 void steps_write(struct bytes *out, const struct session *s)
 {
     bytes_print(out, STEPS_START);
-    for (size_t i = 0; i < s->count; i++) {
-        bytes_print(out, "%zu %s %zu: ", s->steps[i].line, s->unit, s->steps[i].line);
-        for (const char *c = s->steps[i].text; *c; c++)
-            bytes_repeat(out, *c >= ' ' && *c <= '~' ? (uint8_t)*c : '_', 1);
-        bytes_repeat(out, '\n', 1);
-    }
+    for (size_t i = 0; i < s->count; i++)
+        if (s->steps[i].count > 0)
+            step_write(out, s, &s->steps[i]);
 }

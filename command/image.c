@@ -10,7 +10,9 @@
 /* A run of no events changes nothing, and is refused exactly where the image is. */
 uint32_t image_refusal(const struct bytes *image)
 {
-    return troughiron_run(image->data, image->length, NULL, 0, NULL, 0);
+    uint64_t copied;
+
+    return troughiron_run(image->data, image->length, NULL, 0, NULL, 0, &copied);
 }
 
 int image_read(struct bytes *image, const char *path)
@@ -37,6 +39,7 @@ struct device image_device(const struct bytes *image, size_t index)
     return (struct device){
         .number = index + 1,
         .kind = kind_of_family(entry[0]),
+        .flat = entry[1] == TROUGHIRON_FLAT,
         .body = image->data + entry[2] + 256 * entry[3],
     };
 }

@@ -9,10 +9,12 @@
 struct device {
     size_t number; /* from 1 */
     const struct kind *kind;
+    bool flat;
     const uint8_t *body;
 };
 
-enum { IMAGE_EDITION = 1, TABLE = 2, ENTRY_SIZE = 4 };
+/* Edition 2 has a byte in each entry that tells whether the device is flat; in edition 1 that byte is zero. */
+enum { EDITION = 1, EDITION_WITH_FLAT = 2, TABLE = 2, ENTRY_SIZE = 4 };
 
 /* Reads an image that the library accepts. Returns DONE, or says why not. */
 int image_read(struct bytes *image, const char *path);

@@ -8,6 +8,7 @@ static const int signals[] = { SIGHUP, SIGINT, SIGTERM };
 enum { SIGNALS = sizeof signals / sizeof *signals };
 
 static volatile sig_atomic_t noted; /* the signal, or 0 */
+static bool kept;                   /* until the command asks for it */
 
 static void note(int number)
 {
@@ -34,11 +35,24 @@ void interrupt_defer(void)
 
 bool interrupted(void)
 {
+    return noted != 0 && !kept;
+}
+
+void interrupt_keep(void)
+{
+    interrupt_defer();
+    kept = true;
+}
+
+bool interrupt_kept(void)
+{
     return noted != 0;
 }
 
 void interrupt_allow(void)
 {
+    if (kept)
+        return;
     for (size_t i = 0; i < SIGNALS; i++)
         replace(signals[i], note, SIG_DFL);
     if (noted)

@@ -10,6 +10,13 @@ void interrupt_defer(void);
 /* Whether one was noted. */
 bool interrupted(void);
 
+/*
+ * For a command that goes on until it is interrupted: an interruption is only noted from here on, whatever else allows
+ * or asks for one, and is asked for here. Nothing that is being written is cut off by it.
+ */
+void interrupt_keep(void);
+bool interrupt_kept(void);
+
 /* Interruptions end the command again; one that was noted ends it now. */
 void interrupt_allow(void);
 

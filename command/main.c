@@ -43,8 +43,10 @@ static int dispatch(struct words *words)
     } commands[] = { { "new", new_command },
                      { "show", show_command },
                      { "run", run_command },
+                     { "test", test_command },
                      { "search", search_command },
-                     { "check", check_command } };
+                     { "check", check_command },
+                     { "serve", serve_command } };
 
     for (size_t i = 0; i < sizeof commands / sizeof *commands; i++)
         if (strcmp(words->command, commands[i].name) == 0)

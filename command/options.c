@@ -91,5 +91,6 @@ int options_take(struct words *words, const struct option *options, size_t count
 
 int words_wrong(const struct words *words, const char *expected)
 {
-    return bad_usage(words->command, "%s expected, not %zu word%s", expected, words->count, words->count == 1 ? "" : "s");
+    return bad_usage(words->command, "%s expected, not %zu word%s", expected, words->count,
+                     words->count == 1 ? "" : "s");
 }

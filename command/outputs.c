@@ -82,7 +82,10 @@ static int stage_beside(struct output *o, mode_t mode)
     return fill_temporary(o, mode);
 }
 
-/* The path with its folder's links followed, so that two names of a place compare equal; null, with the cause in errno, with no such folder. */
+/*
+ * The path with its folder's links followed, so that two names of a place compare equal; null, with the cause in errno,
+ * with no such folder.
+ */
 static char *place_of_new(const char *path)
 {
     const char *const slash = strrchr(path, '/');
@@ -165,7 +168,10 @@ int outputs_stage(struct outputs *o, const char *path, enum holding holding, con
 /* ------------------------------------------------------------------ */
 /* Into place                                                          */
 
-/* Makes a renamed file last through a loss of power, where the system can. The name, which is beside the place, is used up. */
+/*
+ * Makes a renamed file last through a loss of power, where the system can. The name, which is beside the place, is used
+ * up.
+ */
 static void sync_folder(char *name)
 {
     char *const slash = strrchr(name, '/');
@@ -201,7 +207,10 @@ static int write_place(const struct output *o)
     return status;
 }
 
-/* A link, unlike a rename, replaces nothing that was put there meanwhile. Where the system has no links, a rename has to do. */
+/*
+ * A link, unlike a rename, replaces nothing that was put there meanwhile. Where the system has no links, a rename has
+ * to do.
+ */
 static int put_new(const struct output *o)
 {
     if (link(o->temporary, o->place) == 0) {
@@ -249,7 +258,9 @@ static int commit_those(struct outputs *o, bool staged_beside)
     return status;
 }
 
-/* What has no temporary file, a pipe or a device, can fail in the middle and so goes first: then no file is replaced. */
+/*
+ * What has no temporary file, a pipe or a device, can fail in the middle and so goes first: then no file is replaced.
+ */
 int outputs_commit(struct outputs *o, FILE *report)
 {
     int status = report_flush(report);

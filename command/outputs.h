@@ -1,6 +1,6 @@
 /*
- * The files that a command writes. All of them are staged, each in a temporary file beside its place, before the first is put into its place:
- * whatever fails, a file is there as it was or complete.
+ * The files that a command writes. All of them are staged, each in a temporary file beside its place, before the first
+ * is put into its place: whatever fails, a file is there as it was or complete.
  */
 #ifndef OUTPUTS_H
 #define OUTPUTS_H
@@ -29,8 +29,8 @@ struct outputs {
 };
 
 /*
- * Stages bytes, which must stay until the commit, for a path, or for standard output with "-". A path of null is none. Returns DONE, or
- * says why not.
+ * Stages bytes, which must stay until the commit, for a path, or for standard output with "-". A path of null is none.
+ * Returns DONE, or says why not.
  */
 int outputs_stage(struct outputs *o, const char *path, enum holding holding, const void *bytes, size_t length);
 

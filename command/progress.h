@@ -1,4 +1,6 @@
-/* A line on standard error about long work, where that is a terminal. Work that is done within half a second has none. */
+/*
+ * A line on standard error about long work, where that is a terminal. Work that is done within half a second has none.
+ */
 #ifndef PROGRESS_H
 #define PROGRESS_H
 

@@ -14,7 +14,10 @@ struct record_paths {
     struct replacing replacing;
 };
 
-/* Where the report goes: standard error where a file takes standard output. Null, with a word, where two files have the same place. */
+/*
+ * Where the report goes: standard error where a file takes standard output. Null, with a word, where two files have the
+ * same place.
+ */
 FILE *record_report(const char *command, const struct record_paths *paths);
 
 /* Writes the files that are asked for, after the report. Returns DONE, or says why not. */

@@ -2,7 +2,10 @@
 
 #include "gtkwave.h"
 #include "image.h"
+#include "junit.h"
+#include "recorder.h"
 #include "status.h"
+#include "text.h"
 #include "troughiron.h"
 #include "vcd.h"
 
@@ -43,6 +46,12 @@ static bool holds(const struct bytes *file, enum holding holding)
         return starts_with(file, SAVE_START);
     case HOLDS_STEPS:
         return starts_with(file, STEPS_START);
+    case HOLDS_SESSION:
+        return starts_with(file, RECORDED_START);
+    case HOLDS_LOG:
+        return starts_with(file, LOG_START);
+    case HOLDS_JUNIT:
+        return starts_with(file, JUNIT_START);
     }
     return false;
 }
@@ -62,7 +71,9 @@ int replace_refused(const char *path)
 int replace_allowed(const struct replacing *asked, const char *path, enum holding holding)
 {
     static const char *const names[] = { "image", "file of answers", "trace", "waveform of this command",
-                                         "save file of this command", "file of steps of this command" };
+                                         "save file of this command", "file of steps of this command",
+                                         "session that was recorded", "log of this command",
+                                         "JUnit file of this command" };
     struct bytes file = { 0 };
 
     if (holding == HOLDS_IMAGE && asked->own && same_file(asked->own, path))

@@ -4,7 +4,17 @@
 
 #include <stdbool.h>
 
-enum holding { HOLDS_IMAGE, HOLDS_ANSWERS, HOLDS_TRACE, HOLDS_WAVEFORM, HOLDS_SAVE, HOLDS_STEPS };
+enum holding {
+    HOLDS_IMAGE,
+    HOLDS_ANSWERS,
+    HOLDS_TRACE,
+    HOLDS_WAVEFORM,
+    HOLDS_SAVE,
+    HOLDS_STEPS,
+    HOLDS_SESSION,
+    HOLDS_LOG,
+    HOLDS_JUNIT
+};
 
 /* What was asked for: -f, and the image that was read, or null, which may be written over as it was named twice. */
 struct replacing {

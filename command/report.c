@@ -1,13 +1,17 @@
 #include "report.h"
 
+#include "copies.h"
 #include "event.h"
+#include "image.h"
 #include "progress.h"
 #include "style.h"
 #include "transactions.h"
 
 #include <string.h>
 
-/* Widths of the columns: a step's number with two blanks, its text, and what was sent: eight bytes with blanks between. */
+/*
+ * Widths of the columns: a step's number with two blanks, its text, and what was sent: eight bytes with blanks between.
+ */
 enum { MARGIN = 7, TEXT = 28, SENT = 23, ROW_BYTES = 8, CELL = 32 };
 
 /* ------------------------------------------------------------------ */
@@ -34,15 +38,6 @@ static size_t write_bits(char *cell, const uint8_t *levels, size_t count)
     return count;
 }
 
-static unsigned byte_of(const uint8_t *levels)
-{
-    unsigned byte = 0;
-
-    for (unsigned i = 0; i < 8; i++)
-        byte |= (levels[i] & 1u) << i;
-    return byte;
-}
-
 /* The bytes that levels spell, or, where there are fewer than eight, the levels themselves. */
 static void write_levels(char cell[CELL], const uint8_t *levels, size_t count, bool bits)
 {
@@ -55,11 +50,11 @@ static void write_levels(char cell[CELL], const uint8_t *levels, size_t count, b
     }
     if (bits) {
         at = write_bits(cell, levels, 8);
-        snprintf(cell + at, CELL - at, "  %02X", byte_of(levels));
+        snprintf(cell + at, CELL - at, "  %02X", byte_of_levels(levels));
         return;
     }
     for (size_t i = 0; i < count; i += 8)
-        at += (size_t)snprintf(cell + at, CELL - at, "%s%02X", i ? " " : "", byte_of(levels + i));
+        at += (size_t)snprintf(cell + at, CELL - at, "%s%02X", i ? " " : "", byte_of_levels(levels + i));
 }
 
 static void write_sent(char cell[CELL], const uint8_t *events, size_t count, bool bits)
@@ -113,6 +108,10 @@ struct report {
     const uint8_t *events, *answers;
     bool bits, colour, changed;
     struct transactions transactions;
+    const struct bytes *image; /* before the run */
+    struct copies copies;
+    size_t shown; /* of the copies */
+    const char *file; /* that the last step is of */
 };
 
 /* What the transaction that ends at a place changed, under its steps. */
@@ -140,15 +139,57 @@ static void print_row(struct report *r, const struct step *step, size_t from, si
     fputc('\n', r->out);
 }
 
+/* What the copies did whose patterns end in the events of a row, under it. */
+static void print_copies(struct report *r, size_t to)
+{
+    char name[DEVICE_TEXT];
+
+    for (; r->shown < r->copies.count && r->copies.list[r->shown].event < to; r->shown++) {
+        const struct copy *const copy = &r->copies.list[r->shown];
+        const struct device device = image_device(r->image, copy->device);
+
+        device_write(name, &device);
+        fprintf(r->out, "%*scopied by %s: ", MARGIN, "", name);
+        if (copy->bytes > 0)
+            report_number(r->out, copy->bytes, "byte", "bytes");
+        else
+            fputs("nothing", r->out);
+        fprintf(r->out, " at %04Xh\n", copy->address);
+    }
+}
+
+/* Where the steps of another text begin, its name. */
+static void print_file(struct report *r, const struct step *step)
+{
+    if (step->file != r->file)
+        fprintf(r->out, "%*sin %s\n", MARGIN, "", step->file);
+    r->file = step->file;
+}
+
+/* What a step without events says of those before it, on the same line as a text of any length. */
+static void print_note(struct report *r, const struct step *step)
+{
+    fprintf(r->out, "%5zu  %-*s  ", step->line, TEXT, step->text);
+    if (step->failed)
+        fputs("! ", r->out);
+    style_bright(r->out, r->colour && step->failed, step->note);
+    fputc('\n', r->out);
+}
+
 static void print_step(struct report *r, const struct step *step)
 {
     const size_t end = step->first + step->count;
 
+    if (step->count > 0 || step->note)
+        print_file(r, step);
+    if (step->note)
+        print_note(r, step);
     for (size_t i = step->first, next; i < end; i = next) {
         next = row_end(r->events, i, end, r->bits ? 1 : ROW_BYTES);
         if (r->events[i] == TROUGHIRON_RESET)
             print_changes(r, i + 1);
         print_row(r, step, i, next);
+        print_copies(r, next);
     }
 }
 
@@ -158,6 +199,9 @@ bool report_steps(FILE *out, const struct session *s, const uint8_t *answers, co
     struct report r = { .out = out, .events = s->events.data, .answers = answers, .bits = bits };
 
     r.colour = style_wanted(out);
+    r.image = image;
+    r.file = s->name;
+    r.copies = copies_of(image, &s->events, answers);
     r.transactions = transactions_of(image, &s->events);
     fprintf(out, "%5s  %-*s  %-*s  %s\n", s->unit, TEXT, "step", SENT, "sent", "answered");
     for (size_t i = 0; i < s->count; i++) {
@@ -167,6 +211,7 @@ bool report_steps(FILE *out, const struct session *s, const uint8_t *answers, co
     print_changes(&r, s->events.length);
     progress_end(&progress);
     transactions_free(&r.transactions);
+    copies_free(&r.copies);
     return r.changed;
 }
 
@@ -175,7 +220,7 @@ void report_number(FILE *out, uint64_t number, const char *one, const char *many
     fprintf(out, "%llu %s", (unsigned long long)number, number == 1 ? one : many);
 }
 
-void report_counts(FILE *out, const struct bytes *events)
+void report_counts(FILE *out, const struct bytes *events, uint64_t copied)
 {
     size_t resets = 0, pulses = 0;
 
@@ -190,5 +235,16 @@ void report_counts(FILE *out, const struct bytes *events)
     report_number(out, events->length - resets - pulses, "slot", "slots");
     fputs(", ", out);
     report_number(out, pulses, "pulse", "pulses");
-    fputc('\n', out);
+    fputs("; ", out);
+    report_number(out, copied, "byte", "bytes");
+    fputs(" copied\n", out);
+}
+
+void report_expectations(FILE *out, const struct session *s)
+{
+    report_number(out, s->expectations, "expectation", "expectations");
+    if (s->failures > 0)
+        fprintf(out, ", %zu not met\n", s->failures);
+    else
+        fputs(", all met\n", out);
 }

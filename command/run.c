@@ -2,6 +2,7 @@
 #include "cause.h"
 #include "commands.h"
 #include "image.h"
+#include "outputs.h"
 #include "record.h"
 #include "report.h"
 #include "status.h"
@@ -12,10 +13,11 @@
 
 struct run {
     struct record_paths paths;
-    const char *image_path, *session_path;
+    const char *image_path, *session_path; /* the image is null where the session has a bench of its own */
     bool raw, bits, quiet;
     FILE *report;
-    struct bytes image, before, answers;
+    struct bytes image, answers;
+    uint64_t copied;
     struct session session;
 };
 
@@ -24,20 +26,22 @@ struct run {
 
 static int same_standard_input(const struct run *r)
 {
-    if (strcmp(r->image_path, "-") == 0 && strcmp(r->session_path, "-") == 0)
+    if (r->image_path && strcmp(r->image_path, "-") == 0 && strcmp(r->session_path, "-") == 0)
         return bad_usage("run", "only one of the image and the session can come from standard input");
     return DONE;
 }
 
-/* The image and the session; a raw trace stands in the session's place. */
+/* The image and the session, which may have a bench in the image's place; raw events stand in the session's place. */
 static int take_words(struct run *r, const struct words *words, const char *trace)
 {
     r->raw = trace;
-    if (words->count != (trace ? 1 : 2))
-        return words_wrong(words, trace ? "one image" : "an image and a session");
-    r->image_path = words->list[0];
-    r->paths.replacing.own = strcmp(r->image_path, "-") == 0 ? NULL : r->image_path;
-    r->session_path = trace ? trace : words->list[1];
+    if (trace && words->count != 1)
+        return words_wrong(words, "one image");
+    if (words->count != 1 && words->count != 2)
+        return words_wrong(words, "an image and a session, or a session with a bench,");
+    r->image_path = trace || words->count == 2 ? words->list[0] : NULL;
+    r->session_path = trace ? trace : words->list[words->count - 1];
+    r->paths.replacing.own = r->image_path && strcmp(r->image_path, "-") != 0 ? r->image_path : NULL;
     return same_standard_input(r);
 }
 
@@ -60,19 +64,23 @@ static int make_room(struct run *r, const char *room)
 
 static int read_input(struct run *r)
 {
-    const int status = image_read(&r->image, r->image_path);
+    struct bytes given = { 0 };
+    int status = r->image_path ? image_read(&given, r->image_path) : DONE;
 
-    if (status != DONE)
-        return status;
-    bytes_add(&r->before, r->image.data, r->image.length);
-    return r->raw ? session_read_raw(&r->session, r->session_path) : session_read(&r->session, r->session_path, &r->image);
+    if (status == DONE && r->raw)
+        status = session_read_raw(&r->session, r->session_path, &given);
+    else if (status == DONE)
+        status = session_read(&r->session, r->session_path, r->image_path ? &given : NULL);
+    bytes_add(&r->image, r->session.image.data, r->session.image.length);
+    bytes_free(&given);
+    return status;
 }
 
 static int run_events(struct run *r)
 {
     const struct bytes *const events = &r->session.events;
-    const uint32_t refusal = troughiron_run(r->image.data, r->image.length, events->data, events->length, r->answers.data,
-                                            r->answers.length);
+    const uint32_t refusal = troughiron_run(r->image.data, r->image.length, events->data, events->length,
+                                            r->answers.data, r->answers.length, &r->copied);
 
     if (refusal)
         return run_refused(&r->session, &r->image, r->answers.length, refusal);
@@ -84,15 +92,18 @@ static int run_events(struct run *r)
 /* What every transaction changed, and what they changed in all, which can be nothing. */
 static void report(const struct run *r)
 {
-    const bool changed = report_steps(r->report, &r->session, r->answers.data, &r->before, r->bits);
+    const struct bytes *const before = &r->session.image;
+    const bool changed = report_steps(r->report, &r->session, r->answers.data, before, r->bits);
 
     fputc('\n', r->report);
-    report_counts(r->report, &r->session.events);
-    if (image_differs(&r->before, &r->image))
+    report_counts(r->report, &r->session.events, r->copied);
+    if (r->session.expectations > 0)
+        report_expectations(r->report, &r->session);
+    if (image_differs(before, &r->image))
         fputs("changed in all\n", r->report);
     else
         fputs(changed ? "nothing changed in all\n" : "nothing changed\n", r->report);
-    report_changes(r->report, 0, &r->before, &r->image);
+    report_changes(r->report, 0, before, &r->image);
 }
 
 static int run_session(struct run *r, const char *room)
@@ -107,6 +118,8 @@ static int run_session(struct run *r, const char *room)
         return status;
     if (!r->quiet)
         report(r);
+    if (r->session.failures > 0)
+        return report_flush(r->report) == DONE ? session_verdict(&r->session) : BAD;
     return record_write(&r->paths, r->report, &r->session, &r->answers, &r->image);
 }
 
@@ -137,7 +150,6 @@ int run_command(struct words *words)
         status = run_session(&r, room);
     session_free(&r.session);
     bytes_free(&r.answers);
-    bytes_free(&r.before);
     bytes_free(&r.image);
     return status;
 }

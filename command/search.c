@@ -66,13 +66,15 @@ static int record_search(const struct found *f, struct bytes *image, const struc
 {
     struct session session = { .name = "search", .unit = "pass" };
     struct bytes answers = { 0 };
+    uint64_t copied;
 
     pass_steps(&session, f);
     bytes_repeat(&answers, 0, session.events.length);
 
     const uint32_t refusal = troughiron_run(image->data, image->length, session.events.data, session.events.length,
-                                            answers.data, answers.length);
-    const int status = refusal ? run_refused(&session, image, answers.length, refusal) : record_write(paths, report, &session, &answers, image);
+                                            answers.data, answers.length, &copied);
+    const int status = refusal ? run_refused(&session, image, answers.length, refusal)
+                               : record_write(paths, report, &session, &answers, image);
 
     bytes_free(&answers);
     session_free(&session);
@@ -86,8 +88,9 @@ static int search_image(const char *path, const struct record_paths *paths, FILE
     int status = image_read(&image, path);
 
     if (status == DONE) {
-        const uint32_t refusal = troughiron_search(image.data, image.length, found.codes, sizeof found.codes, found.trace,
-                                                   sizeof found.trace, &found.passes, &found.resets, &found.slots);
+        const uint32_t refusal = troughiron_search(image.data, image.length, found.codes, sizeof found.codes,
+                                                   found.trace, sizeof found.trace, &found.passes, &found.resets,
+                                                   &found.slots);
 
         status = refusal ? image_refused(input_name(path), &image, refusal) : DONE;
     }

@@ -51,7 +51,10 @@ static void show_registers(FILE *out, const uint8_t *body)
     fputc('\n', out);
 }
 
-/* Byte 0 of the status has the write protection, bytes 1 to 4 the redirection: the ones' complement of the page that replaces this one. */
+/*
+ * Byte 0 of the status has the write protection, bytes 1 to 4 the redirection: the ones' complement of the page that
+ * replaces this one.
+ */
 static void show_pages(FILE *out, const uint8_t *status)
 {
     for (unsigned page = 0; page < PAGES; page++) {
@@ -73,7 +76,7 @@ static void show_device(FILE *out, const struct device *device)
     device_write(name, device);
     fputc('\n', out);
     style_bright(out, style_wanted(out), name);
-    fputc('\n', out);
+    fputs(device->flat ? "\n  flat: ROM functions only\n" : "\n", out);
     if (!device->kind->add_only)
         show_registers(out, device->body);
     dump(out, kind_field(device->kind, 0), device->body);

@@ -11,6 +11,7 @@ enum {
     BAD = 1,       /* bad input, or the system does not give what is needed */
     USAGE = 2,     /* the command line is not one that the command knows */
     NOT_VALID = 3, /* check: the code is not valid */
+    NOT_MET = 5,   /* a session: an expectation is not met */
     REFUSED = 10
 };
 

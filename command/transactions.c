@@ -20,10 +20,12 @@ struct transactions transactions_of(const struct bytes *image, const struct byte
  */
 bool transactions_next(struct transactions *t, size_t end)
 {
+    uint64_t copied;
+
     t->before.length = 0;
     bytes_add(&t->before, t->after.data, t->after.length);
     (void)troughiron_run(t->after.data, t->after.length, t->events + t->start, end - t->start, t->answers.data,
-                         t->answers.length);
+                         t->answers.length, &copied);
     t->start = end > 0 ? end - 1 : 0;
     return image_differs(&t->before, &t->after);
 }

@@ -17,8 +17,8 @@ struct transactions {
 struct transactions transactions_of(const struct bytes *image, const struct bytes *events);
 
 /*
- * Goes on by the transaction that ends at a place: after a reset, which is its last event, as it is this reset that sets
- * PF, and the first of the next one; or at the end of all events. Returns whether it changed a device.
+ * Goes on by the transaction that ends at a place: after a reset, which is its last event, as it is this reset that
+ * sets PF, and the first of the next one; or at the end of all events. Returns whether it changed a device.
  */
 bool transactions_next(struct transactions *t, size_t end);
 

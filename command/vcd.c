@@ -153,8 +153,12 @@ void vcd_write(struct bytes *out, const struct session *s, const uint8_t *answer
 
     start(&d);
     for (size_t i = 0; i < s->events.length; i++) {
-        if (next < s->count && s->steps[next].first == i)
-            mark(&d, (long long)s->steps[next++].line);
+        while (next < s->count && s->steps[next].count == 0)
+            next++;
+        if (next < s->count && s->steps[next].first == i) {
+            mark(&d, (long long)step_number(s, &s->steps[next]));
+            next++;
+        }
         draw(&d, s->events.data[i], answers[i]);
         progress_at(&progress, i + 1);
     }

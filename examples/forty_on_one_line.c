@@ -164,7 +164,7 @@ static void check_own_search(const uint8_t *image, size_t length, const uint8_t 
 int main(void)
 {
     static uint8_t image[ROOM], before[ROOM], codes[CODE * DEVICES], trace[PASS * DEVICES], answers[PASS * DEVICES];
-    uint64_t passes, resets, slots;
+    uint64_t passes, resets, slots, copied;
     size_t length = new_image(image);
     memcpy(before, image, sizeof image);
 
@@ -180,8 +180,9 @@ int main(void)
            (unsigned long long)slots);
     check_codes(codes, passes);
 
-    refusal = troughiron_run(image, length, trace, sizeof trace, answers, sizeof answers);
+    refusal = troughiron_run(image, length, trace, sizeof trace, answers, sizeof answers, &copied);
     check("the trace runs again", refusal == 0);
+    check("nothing copied", copied == 0);
     check("image as it was", memcmp(image, before, sizeof image) == 0);
     check_answers(codes, passes, answers);
     check_own_search(image, length, codes);

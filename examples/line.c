@@ -10,16 +10,18 @@ enum { MOST = TROUGHIRON_MOST_EVENTS - 1 };
 static int run(struct line *l, size_t count)
 {
     uint8_t image[LINE_IMAGE];
+    uint64_t copied;
 
     memcpy(image, l->start, l->length);
 
     uint32_t refusal = troughiron_run(image, l->length, l->events, count, l->answers,
-                                      sizeof l->answers);
+                                      sizeof l->answers, &copied);
 
     if (refusal != TROUGHIRON_ANSWERED)
         return -(int)refusal;
     memcpy(l->image, image, l->length);
     l->count = count;
+    l->copied = l->copied_before + copied;
     return l->answers[count - 1];
 }
 
@@ -54,6 +56,7 @@ int line_reset(struct line *l)
     if (level < 0)
         return level;
     memcpy(l->start, l->image, l->length);
+    l->copied_before = l->copied;
     l->events[0] = TROUGHIRON_RESET;
     l->count = 1;
     return level == 0;
@@ -105,10 +108,12 @@ int line_open(struct line *l, const uint8_t *image, size_t length)
     if (length > LINE_IMAGE)
         l->length = LINE_IMAGE;
     l->count = 0;
+    l->copied = l->copied_before = 0;
     if (l->length > 0)
         memcpy(l->start, image, l->length);
 
-    uint32_t refusal = troughiron_run(l->start, l->length, NULL, 0, NULL, 0);
+    uint64_t copied;
+    uint32_t refusal = troughiron_run(l->start, l->length, NULL, 0, NULL, 0, &copied);
 
     if (length > LINE_IMAGE && refusal != TROUGHIRON_REFUSED_TABLE)
         refusal = TROUGHIRON_REFUSED_LAYOUT; /* no bench is so long */

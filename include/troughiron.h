@@ -1,20 +1,24 @@
 /*
  * Troughiron: a software bench for 1-Wire memory buttons (DS1992, DS1993, DS1982).
  *
- * A bench is an image of bytes. Byte 0 is the number n of devices, 0 to 64, byte 1 the edition, 1. Then n entries of four bytes follow:
- * family code (08h DS1992, 06h DS1993, 09h DS1982), a zero, the offset of the device's body (low byte first). The bodies follow in the order
- * of the entries, packed, with nothing after the last:
+ * A bench is an image of bytes. Byte 0 is the number n of devices, 0 to 64, byte 1 the edition, 1 or 2. Then n entries
+ * of four bytes follow: family code (08h DS1992, 06h DS1993, 09h DS1982), the state of the battery (0 good; in edition
+ * 2 also 1 flat, but not for a DS1982, which has none), the offset of the device's body (low byte first). The bodies
+ * follow in the order of the entries, packed, with nothing after the last:
  *
- *   DS1992, DS1993   8 code bytes, TA1, TA2, E/S, 32 scratchpad bytes, then 128 or 512 bytes of memory: 171 or 555 bytes
+ *   DS1992, DS1993   8 code bytes, TA1, TA2, E/S, 32 scratchpad bytes, 128 or 512 bytes of memory: 171 or 555 bytes
  *   DS1982           8 code bytes, 8 status bytes, 128 data bytes: 144 bytes
  *
  * A code is 8 bytes: family code, serial number (low byte first), CRC.
  *
+ * A flat device does every ROM function, since its ROM runs from the line, and is found like any other. Where a good
+ * one takes a memory command, it waits for a reset and answers ones; its body stays as it is.
+ *
  * For every function here:
  *   - A slice is a pointer and a length. Any length is fine; a length of 0 may go with a null pointer.
  *   - Buffers of one call must not overlap, and nothing else may change them during the call.
- *   - Nothing is retained after the call, nothing is allocated, and there is no state between calls: calls on different buffers may
- *     run at the same time.
+ *   - Nothing is retained after the call, nothing is allocated, and there is no state between calls: calls on different
+ *     buffers may run at the same time.
  *   - Every call returns. What it returns and what every buffer then holds is proved, for every input.
  */
 #ifndef TROUGHIRON_H
@@ -29,9 +33,9 @@ extern "C" {
 
 /* The version of this interface; the command's is the same. */
 #define TROUGHIRON_VERSION_MAJOR 0
-#define TROUGHIRON_VERSION_MINOR 1
+#define TROUGHIRON_VERSION_MINOR 2
 #define TROUGHIRON_VERSION_PATCH 0
-#define TROUGHIRON_VERSION "0.1.0"
+#define TROUGHIRON_VERSION "0.2.0"
 
 /* Events of a trace, one byte each. */
 enum {
@@ -41,6 +45,12 @@ enum {
     TROUGHIRON_PULSE = 3       /* program pulse: only where every device is a DS1982 */
 };
 
+/* The second byte of an entry. */
+enum {
+    TROUGHIRON_GOOD = 0,
+    TROUGHIRON_FLAT = 1 /* only in edition 2, and not for a DS1982 */
+};
+
 /* Families, the first byte of an entry and of a code. */
 enum {
     TROUGHIRON_DS1992 = 0x08,
@@ -48,7 +58,11 @@ enum {
     TROUGHIRON_DS1982 = 0x09
 };
 
-/* E/S of a DS1992 or DS1993: three flags, and the ending offset in the bits below them. */
+/*
+ * E/S of a DS1992 or DS1993: three flags, and the ending offset in the bits below them. A copy (55h) takes the three
+ * registers as they are: write scratchpad (0Fh) loads TA1, TA2 and E/S, and read memory (F0h) loads TA1 and TA2 too,
+ * on its 16th address bit, and leaves E/S. So after a read of memory the pattern from before it may no longer match.
+ */
 enum {
     TROUGHIRON_ES_AA = 0x80,     /* authorization accepted: the scratchpad was copied */
     TROUGHIRON_ES_OF = 0x40,     /* overflow: a bit was sent past the end of the scratchpad */
@@ -65,7 +79,8 @@ enum {
     TROUGHIRON_REFUSED_ALIKE = 4,
     TROUGHIRON_REFUSED_TRACE = 5,
     TROUGHIRON_REFUSED_PULSE = 6,
-    TROUGHIRON_REFUSED_ROOM = 7
+    TROUGHIRON_REFUSED_ROOM = 7,
+    TROUGHIRON_REFUSED_NO_RESET = 11
 };
 
 /* The most events of a trace, and the most devices of an image. */
@@ -76,31 +91,41 @@ enum {
  * Runs a trace on the devices of an image. Every device waits for a reset at the start.
  *
  * Returns 0 where the run is answered. Then
- *   - answers[i], for each event i, is the level after it: of a slot 0 if the trace sends 0 or any device pulls low, else 1; of a reset 0 if
- *     there is a device, else 1; of a pulse 1. Bytes of answers past the trace are as they were.
- *   - the bodies in image are as the devices are left: registers, flags, scratchpads, memory, status. All else of it is as it was.
+ *   - answers[i], for each event i, is the level after it: of a slot 0 if the trace sends 0 or any device pulls low,
+ *     else 1; of a reset 0 if there is a device, else 1; of a pulse 1. Bytes of answers past the trace are as they
+ *     were.
+ *   - the bodies in image are as the devices are left: registers, flags, scratchpads, memory, status. All else of it is
+ *     as it was.
+ *   - *copied is the number of bytes that all accepted copies (55h) of the trace wrote to memory. A copy of nothing
+ *     adds 0; devices that copy in the same slot all count; a program pulse does not.
  *
- * Returns the number of a refusal otherwise, the lowest whose cause is there, and then nothing is changed:
- *   1  image shorter than 2 + 4n, n over 64, edition not 1, a nonzero second entry byte, or an unknown family
+ * Returns the number of a refusal otherwise, and then nothing is changed, *copied included. It is the first whose cause
+ * is there in this list, whose order is not that of the numbers:
+ *   1  image shorter than 2 + 4n, n over 64, edition neither 1 nor 2, an unknown family, or a second entry byte that
+ *      is nonzero in edition 1, over 1 in edition 2, or 1 for a DS1982
  *   2  an offset or the image's length differs from the packed layout
  *   3  a code's CRC is wrong, or its family byte is not its entry's
  *   4  two devices have the same code
  *   5  trace of over 32,768 events, or with a byte over 3
+ *  11  trace that is not empty and does not begin with a reset
  *   6  a program pulse in the trace while some device is not a DS1982
  *   7  answers shorter than the trace
+ *
+ * copied must not be null.
  */
 uint32_t troughiron_run(uint8_t *image, size_t image_length,
                         const uint8_t *trace, size_t trace_length,
-                        uint8_t *answers, size_t answers_length);
+                        uint8_t *answers, size_t answers_length,
+                        uint64_t *copied);
 
 /*
- * Searches the devices of an image: the searching master of the 1-Wire search algorithm, stepped with the levels of the line and nothing else.
- * The image is only read.
+ * Searches the devices of an image: the searching master of the 1-Wire search algorithm, stepped with the levels of the
+ * line and nothing else. The image is only read.
  *
  * Returns 0 where the search is answered. With n devices,
  *   - codes holds the n codes found, 8 bytes each: every device's code once, ordered by bit 0 first, 0 before 1;
- *   - trace holds the events sent: n passes of a reset and 200 slots, or with n = 0 one reset. troughiron_run of it on the same image is not
- *     refused, leaves the image as it is, and answers what the search saw;
+ *   - trace holds the events sent: n passes of a reset and 200 slots, or with n = 0 one reset. troughiron_run of it on
+ *     the same image is not refused, leaves the image as it is, and answers what the search saw;
  *   - *passes, *resets and *slots are those of that trace: n, n and 200n, or with n = 0: 0, 1 and 0.
  * Bytes past these are as they were.
  *

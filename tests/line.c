@@ -137,14 +137,17 @@ static void compare(void)
 {
     static uint8_t image[LINE_IMAGE], answers[TROUGHIRON_MOST_EVENTS];
     const size_t length = host.line.length;
+    uint64_t copied;
 
     memcpy(image, host.first, length);
 
-    const uint32_t refusal = troughiron_run(image, length, host.events, host.count, answers, sizeof answers);
+    const uint32_t refusal =
+        troughiron_run(image, length, host.events, host.count, answers, sizeof answers, &copied);
 
     check(refusal == TROUGHIRON_ANSWERED, "the long run is refused");
     check(memcmp(answers, host.levels, host.count) == 0, "levels differ from those of one long run");
     check(memcmp(image, host.line.image, length) == 0, "the image differs from that of one long run");
+    check(copied == host.line.copied, "the bytes copied are not those of one long run");
 }
 
 /* ------------------------------------------------------------------ */
@@ -218,7 +221,7 @@ static void command(int pulses)
 
 static void transaction(int pulses)
 {
-    if (below(20) > 0)
+    if (host.count == 0 || below(20) > 0)
         reset();
     if (below(10) > 0)
         address_device();
@@ -297,15 +300,11 @@ static void limit_by_bits(void)
     check(line_bit(&host.line, 1) == 1, "no slot after the reset that follows an end");
 }
 
-/* Reads by the byte: where eight slots do not fit any more, single ones do. Before the first reset all devices wait. */
+/* Reads by the byte: where eight slots do not fit any more, single ones do. */
 static void limit_by_bytes(void)
 {
     open_bench((const uint8_t[]){ TROUGHIRON_DS1982, TROUGHIRON_DS1982 }, 2);
-    byte(0xF0);
     reset();
-    host.count = 0; /* from here on the line's trace is the whole one */
-    memcpy(host.first, host.line.image, host.line.length);
-    keep(TROUGHIRON_RESET, 0);
     byte(0xCC);
     byte(0xF0);
     byte(0x00);
@@ -325,6 +324,26 @@ static void limit_by_bytes(void)
 
 /* ------------------------------------------------------------------ */
 /* Refusals                                                            */
+
+/* Whatever is sent before the first reset is refused, and the line goes on as if it had not been asked for. */
+static void before_a_reset(void)
+{
+    const int refused = -TROUGHIRON_REFUSED_NO_RESET;
+    struct line *const l = &host.line;
+    uint8_t bytes[2] = { 0x5A, 0x5A };
+
+    open_bench((const uint8_t[]){ TROUGHIRON_DS1982, TROUGHIRON_DS1992 }, 2);
+    check(line_bit(l, 0) == refused && line_bit(l, 1) == refused, "a slot before a reset is not refused");
+    check(line_byte(l, 0xF0) == refused, "a byte before a reset is not refused");
+    check(line_read(l, bytes, sizeof bytes) == refused, "a read before a reset is not refused");
+    check(bytes[0] == 0x5A && bytes[1] == 0x5A, "a refused read wrote bytes");
+    check(line_pulse(l) == refused, "a pulse before a reset is refused for its device");
+    compare();
+    reset();
+    byte(0x33);
+    read_bytes(8);
+    compare();
+}
 
 static void refused_pulse(void)
 {
@@ -355,7 +374,7 @@ static void refused_images(void)
     check(line_bit(l, 1) < 0 && line_byte(l, 1) < 0, "slots after a refused image");
     check(line_read(l, image, 1) < 0 && line_pulse(l) < 0, "a read and a pulse after a refused image");
     check(line_open(l, image, sizeof image) == -TROUGHIRON_REFUSED_LAYOUT, "an image that is too long");
-    image[1] = 2;
+    image[1] = 3;
     check(line_open(l, image, sizeof image) == -TROUGHIRON_REFUSED_TABLE, "a long image of another edition");
     image[1] = 1;
     body_of(image, 1)[7] ^= 1;
@@ -372,6 +391,7 @@ int main(int argc, char **argv)
     const unsigned long seeds = argc > 1 ? strtoul(argv[1], NULL, 10) : 500;
 
     refused_images();
+    before_a_reset();
     refused_pulse();
     for (unsigned long seed = 0; seed < seeds; seed++)
         random_session(seed);

@@ -1,9 +1,11 @@
-# Reads a waveform back by its times alone: the events and their answers, "EVENT ANSWER" on a line each. It knows the widths of the data
-# sheets and nothing of the command. A width that no data sheet allows is an error, and the exit status 1.
+# Reads a waveform back by its times alone: the events and their answers, "EVENT ANSWER" on a line each. It knows the
+# widths of the data sheets and nothing of the command. A width that no data sheet allows is an error, and the exit
+# status 1.
 #   reset 480 us low or more; presence: 15 to 60 us high, then 60 to 240 us low
 #   slot: up to 15 us low a one; 60 to 120 us a zero of the master; between them a zero of a device
 #   program pulse: 480 us or more on the signal "pulse"
-# The first event comes 1 us after the start, "mark" changes with each number of "step", and there is nothing in the dump that sigrok warns of.
+# The first event comes 1 us after the start, "mark" changes with each number of "step", and there is nothing in the
+# dump that sigrok warns of.
 
 function wrong(what) {
     print "vcd.awk: at " now " us: " what | "cat >&2"

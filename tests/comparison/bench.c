@@ -70,6 +70,7 @@ void bench_lay_out(struct bench *b, const enum kind *kinds, size_t count)
 
     for (size_t i = 0; i < count; i++) {
         b->kinds[i] = kinds[i];
+        b->flat[i] = 0;
         b->bodies[i] = offset;
         offset += kind_body_bytes(kinds[i]);
     }
@@ -85,6 +86,30 @@ void bench_lay_out(struct bench *b, const enum kind *kinds, size_t count)
         entry[2] = (uint8_t)b->bodies[i];
         entry[3] = (uint8_t)(b->bodies[i] >> 8);
     }
+}
+
+void bench_to_edition_2(struct bench *b)
+{
+    b->bytes[EDITION] = 2;
+}
+
+void bench_flatten(struct bench *b, size_t device)
+{
+    bench_to_edition_2(b);
+    if (b->kinds[device] == DS1982)
+        return;
+    b->flat[device] = 1;
+    b->bytes[TABLE + ENTRY_BYTES * device + 1] = 1;
+}
+
+void bench_set_batteries(struct bench *b, size_t way)
+{
+    if (way == 0)
+        return;
+    bench_to_edition_2(b);
+    for (size_t i = 0; i < b->count && i < 64; i++)
+        if ((uint64_t)(way - 1) >> i & 1)
+            bench_flatten(b, i);
 }
 
 const uint8_t *bench_see(const struct bench *b, size_t device, size_t offset)
@@ -137,9 +162,15 @@ void bench_take_out(struct bench *b, size_t device)
         if (i != device)
             kinds[count++] = whole.kinds[i];
     bench_lay_out(b, kinds, count);
-    for (size_t i = 0; i < count; i++)
-        memcpy(bench_at(b, i, 0), bench_see(&whole, i + (i >= device), 0),
+    b->bytes[EDITION] = whole.bytes[EDITION];
+    for (size_t i = 0; i < count; i++) {
+        const size_t was = i + (i >= device);
+
+        memcpy(bench_at(b, i, 0), bench_see(&whole, was, 0),
                kind_body_bytes(kinds[i]));
+        if (whole.flat[was])
+            bench_flatten(b, i);
+    }
 }
 
 int bench_takes_pulses(const struct bench *b)
@@ -156,7 +187,8 @@ int bench_takes_pulses(const struct bench *b)
 static void name_table_byte(size_t place, char *name, size_t room)
 {
     static const char *const parts[ENTRY_BYTES] = {
-        "family", "zero", "low byte of the offset", "high byte of the offset"
+        "family", "battery", "low byte of the offset",
+        "high byte of the offset"
     };
 
     if (place == COUNT)
@@ -227,8 +259,8 @@ void show_bytes(FILE *out, const uint8_t *bytes, size_t count)
 
 static void show_device(FILE *out, const struct bench *b, size_t i)
 {
-    fprintf(out, "    device %zu: %s at %zu, code", i, kind_name(b->kinds[i]),
-            b->bodies[i]);
+    fprintf(out, "    device %zu: %s%s at %zu, code", i,
+            b->flat[i] ? "flat " : "", kind_name(b->kinds[i]), b->bodies[i]);
     show_bytes(out, bench_see(b, i, 0), CODE_BYTES);
     if (b->kinds[i] == DS1982) {
         fprintf(out, ", status");

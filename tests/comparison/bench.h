@@ -21,7 +21,7 @@ enum {
     COUNT = 0,
     EDITION = 1,
     TABLE = 2,
-    ENTRY_BYTES = 4, /* family, zero, offset */
+    ENTRY_BYTES = 4, /* family, battery, offset */
     CODE_BYTES = 8,
     CODE_BITS = 64,
     PAGE_BYTES = 32,
@@ -45,6 +45,7 @@ enum {
 struct bench {
     size_t count;
     enum kind kinds[MOST_ENTRIES];
+    int flat[MOST_ENTRIES];      /* whether a battery is */
     size_t bodies[MOST_ENTRIES]; /* offsets */
     size_t length;
     uint8_t bytes[BENCH_ROOM];
@@ -64,8 +65,20 @@ void code_write(uint8_t *code, uint8_t family, uint64_t serial);
 /* Which of two codes is found first, for qsort: bit 0 first, 0 before 1. */
 int code_order(const void *left, const void *right);
 
-/* The table and the offsets of an accepted image; the bodies are zero. */
+/* An accepted image of edition 1, all batteries good; the bodies are zero. */
 void bench_lay_out(struct bench *b, const enum kind *kinds, size_t count);
+
+/* Makes a bench one of edition 2, all batteries as they are. */
+void bench_to_edition_2(struct bench *b);
+
+/* Gives a device a flat battery, and edition 2; a DS1982 has none. */
+void bench_flatten(struct bench *b, size_t device);
+
+/*
+ * Edition and batteries by one number: 0 is edition 1, others are edition 2,
+ * where device i is flat if bit i of one less is set, and it has a battery.
+ */
+void bench_set_batteries(struct bench *b, size_t way);
 
 /* Lays out a bench and fills the bodies with what a number determines. */
 void bench_make(struct bench *b, const enum kind *kinds, size_t count,

@@ -33,18 +33,50 @@ static int count_over_64(struct bench *b, size_t choice)
     return 1;
 }
 
+/* A byte from a least one on: mostly that or the last, at times any. */
+static uint8_t mostly_at_the_ends(size_t choice, size_t least, size_t last)
+{
+    switch (digit(&choice, 5)) {
+    case 0:
+    case 1:
+        return (uint8_t)least;
+    case 2:
+    case 3:
+        return (uint8_t)last;
+    default:
+        return (uint8_t)(least + digit(&choice, last - least + 1));
+    }
+}
+
+/* From 3 on to 255, and on to 0. */
 static int other_edition(struct bench *b, size_t choice)
 {
-    b->bytes[EDITION] = (uint8_t)(2 + digit(&choice, 255));
+    b->bytes[EDITION] = mostly_at_the_ends(choice, 3, 256);
     return 1;
 }
 
-static int second_byte_not_zero(struct bench *b, size_t choice)
+/* Edition 1 knows no flat battery. */
+static int flat_in_edition_1(struct bench *b, size_t choice)
 {
+    (void)choice; /* there is one way only */
+    for (size_t i = 0; i < b->count; i++)
+        if (b->flat[i]) {
+            b->bytes[EDITION] = 1;
+            return 1;
+        }
+    return 0;
+}
+
+/* A 1 is no damage where the device can be flat in this edition. */
+static int other_second_byte(struct bench *b, size_t choice)
+{
+    size_t device, least;
+
     if (b->count == 0)
         return 0;
-    entry(b, digit(&choice, b->count))[1] =
-        (uint8_t)(1 + digit(&choice, 255));
+    device = digit(&choice, b->count);
+    least = b->bytes[EDITION] == 1 || b->kinds[device] == DS1982 ? 1 : 2;
+    entry(b, device)[1] = mostly_at_the_ends(choice, least, 255);
     return 1;
 }
 
@@ -166,7 +198,8 @@ static const struct {
     { 1, table_cut },
     { 1, count_over_64 },
     { 1, other_edition },
-    { 1, second_byte_not_zero },
+    { 1, flat_in_edition_1 },
+    { 1, other_second_byte },
     { 1, unknown_family },
     { 2, wrong_offset },
     { 2, bytes_after_the_last },

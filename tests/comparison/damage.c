@@ -5,6 +5,8 @@
 
 #include <string.h>
 
+const unsigned run_refusals[RUN_REFUSALS] = { 1, 2, 3, 4, 5, 11, 6, 7 };
+
 static int trace_too_long(struct run_case *c, size_t choice)
 {
     const size_t length =
@@ -29,11 +31,22 @@ static int byte_over_3(struct run_case *c, size_t choice)
     return 1;
 }
 
+static int no_reset_first(struct run_case *c, size_t choice)
+{
+    static const enum event events[] = { WRITE_ZERO, WRITE_ONE, PULSE };
+
+    if (c->trace.length == 0)
+        return 0;
+    c->trace.events[0] = (uint8_t)events[digit(&choice, 3)];
+    return 1;
+}
+
+/* The first event stays: a pulse there would be no reset first. */
 static int pulse_refused(struct run_case *c, size_t choice)
 {
-    if (c->trace.length == 0 || bench_takes_pulses(&c->bench))
+    if (c->trace.length < 2 || bench_takes_pulses(&c->bench))
         return 0;
-    c->trace.events[digit(&choice, c->trace.length)] = PULSE;
+    c->trace.events[1 + digit(&choice, c->trace.length - 1)] = PULSE;
     return 1;
 }
 
@@ -54,6 +67,7 @@ static const struct {
 } damages[] = {
     { 5, trace_too_long },
     { 5, byte_over_3 },
+    { 11, no_reset_first },
     { 6, pulse_refused },
     { 7, answers_short },
 };

@@ -6,7 +6,7 @@
 
 #include <stddef.h>
 
-/* How many there are, in order of the refusals they are a cause of. */
+/* How many there are, in the order in which their causes are looked for. */
 size_t damage_count(void);
 
 /* The refusal that a damage is a cause of. */
@@ -17,7 +17,7 @@ unsigned damage_number(size_t damage);
  * nothing done, where it cannot be done: no entry to damage, say.
  *
  * Of several damages the later ones are to be done first: then none undoes
- * the cause of a lower refusal.
+ * the cause of a refusal that comes before its own.
  */
 int damage_do(size_t damage, struct run_case *c, size_t choice);
 

@@ -7,10 +7,8 @@
 #include "prefix.h"
 #include "probe.h"
 #include "second.h"
-#include "subject.h"
 #include "trial.h"
 
-#include <stdlib.h>
 #include <string.h>
 
 /* Buffers and numbers of the call. */
@@ -79,12 +77,8 @@ struct feed {
 
 static void *feed_create(void)
 {
-    struct feed *const f = calloc(1, sizeof *f);
+    struct feed *const f = subject_allocate("feed", sizeof *f);
 
-    if (!f) {
-        perror("feed");
-        exit(2);
-    }
     trial_create(&f->trial, &form);
     return f;
 }
@@ -96,22 +90,17 @@ static struct difference try_case(struct feed *f)
 {
     const struct feed_case *const now = &f->now;
     const struct trial *const t = &f->trial;
+    const uint64_t *const numbers = t->given[LIBRARY].numbers;
     struct difference d;
 
     trial_lend(&f->trial, LEVELS, now->levels, now->length, now->null);
     trial_lend(&f->trial, TRACE, NULL, now->trace, now->null);
     trial_lend(&f->trial, CODES, NULL, now->codes, now->null);
     d = trial_call(&f->trial, NULL);
-    if (d.aspect != ALIKE)
-        return d;
-    if (now->expected != ANY_END && trial_returned(t) != now->expected)
-        return trial_claim("the number that the case is one for");
-    if (!trial_kept(t, TRACE, (size_t)t->given[LIBRARY].numbers[EVENTS]))
-        return trial_claim("bytes past the events sent stay as they were");
-    if (!trial_kept(t, CODES,
-                    CODE_BYTES * (size_t)t->given[LIBRARY].numbers[COMPLETED]))
-        return trial_claim("bytes past the codes stay as they were");
-    return d;
+    d = trial_expect(t, d, now->expected);
+    d = trial_expect_kept(t, d, TRACE, (size_t)numbers[EVENTS]);
+    return trial_expect_kept(t, d, CODES,
+                             CODE_BYTES * (size_t)numbers[COMPLETED]);
 }
 
 static int feed_differs(void *state)
@@ -158,7 +147,7 @@ static void show_case(FILE *out, const struct feed *f)
     fprintf(out, "%zu levels, room for %zu events and %zu bytes of codes%s\n",
             f->now.length, f->now.trace, f->now.codes,
             f->now.null ? ", empty buffers are null" : "");
-    if (f->now.expected != ANY_END)
+    if (f->now.expected != ANY_NUMBER)
         fprintf(out, "the case is one for %u\n", f->now.expected);
     for (size_t i = events < SHOWN ? 0 : events - SHOWN; i < events; i++)
         show_event(out, f, i);
@@ -170,10 +159,10 @@ static void feed_explain(void *state, FILE *out)
     const struct difference d = try_case(f);
 
     trial_explain(out, &f->trial, d);
-    if (d.aspect != ALIKE && d.aspect != CLAIM && !trial_hangs(&f->trial)) {
+    if (trial_can_be_cut(&f->trial, d)) {
         const size_t length = f->now.length;
 
-        f->now.expected = ANY_END;
+        f->now.expected = ANY_NUMBER;
         f->now.length = prefix_that_differs(prefix_differs, f, length).length;
         fprintf(out, "cut to %zu of %zu levels:\n", f->now.length, length);
         trial_explain(out, &f->trial, try_case(f));

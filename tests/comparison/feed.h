@@ -14,12 +14,9 @@ struct feed_case {
     size_t length;
     uint8_t levels[FEED_ROOM];
     size_t trace, codes; /* bytes of room */
-    unsigned expected;   /* the number to be returned, or ANY_END */
+    unsigned expected;   /* the number to be returned, or ANY_NUMBER */
     int null;            /* whether an empty buffer is a null pointer */
 };
-
-/* No number is expected: 255 is one that can be. */
-enum { ANY_END = NO_NUMBER + 1 };
 
 /* The room that so many levels can need. */
 size_t feed_trace_room(size_t levels);

@@ -8,6 +8,7 @@
 #include "dice.h"
 #include "digit.h"
 #include "probe.h"
+#include "room.h"
 #include "trace.h"
 
 #include <stdlib.h>
@@ -167,7 +168,7 @@ static int one_wrong_level(struct feed_case *c, size_t number)
     some_codes(&codes, 4, digit(&number, 6));
     add_search(c, &codes);
     c->levels[digit(&number, c->length)] ^= 1;
-    c->expected = ANY_END;
+    c->expected = ANY_NUMBER;
     return number == 0;
 }
 
@@ -229,21 +230,19 @@ static int rooms(struct feed_case *c, size_t number)
                                       MOST_SEARCH_EVENTS,
                                       MOST_SEARCH_EVENTS + 1 };
     const size_t length = lengths[digit(&number, 8)];
-    const size_t trace = feed_trace_room(length) + digit(&number, 5);
-    const size_t codes_room = feed_code_room(length) + digit(&number, 5);
     struct codes codes;
 
+    c->trace = room_around(&number, feed_trace_room(length));
+    c->codes = room_around(&number, feed_code_room(length));
     some_codes(&codes, digit(&number, 2) == 0 ? 2 : MOST_CODES, length);
     add_search(c, &codes);
     while (c->length < length)
         add_level(c, 1);
     c->length = length;
-    c->trace = trace < 2 ? 0 : trace - 2;
-    c->codes = codes_room < 2 ? 0 : codes_room - 2;
     c->expected = c->trace < feed_trace_room(length)
                           || c->codes < feed_code_room(length)
                       ? 7
-                      : ANY_END;
+                      : ANY_NUMBER;
     return number == 0;
 }
 
@@ -264,24 +263,21 @@ static const struct {
 
 const char *feed_small_group(size_t group)
 {
-    return group < sizeof groups / sizeof *groups ? groups[group].name : NULL;
+    return GROUP_NAME(groups, group);
 }
-
-/* Room that is left open: just enough, and at times a little more. */
-static const size_t ENOUGH = SIZE_MAX;
 
 int feed_small_case(struct feed_case *c, size_t group, size_t number)
 {
     c->length = 0;
     c->trace = c->codes = ENOUGH;
-    c->expected = ANY_END;
+    c->expected = ANY_NUMBER;
     c->null = number % 2 == 0;
     if (!groups[group].make(c, number))
         return 0;
-    if (c->trace == ENOUGH)
-        c->trace = feed_trace_room(c->length) + number % 3;
-    if (c->codes == ENOUGH)
-        c->codes = feed_code_room(c->length) + number % 5;
+    c->trace = room_or_enough(c->trace, feed_trace_room(c->length),
+                              number % 3);
+    c->codes = room_or_enough(c->codes, feed_code_room(c->length),
+                              number % 5);
     return 1;
 }
 
@@ -343,7 +339,7 @@ static void any_levels(struct dice *dice, struct feed_case *c)
 
     while (c->length < length)
         if (c->length % PASS_EVENTS == 0)
-            add_level(c, dice_once_in(dice, 8)); /* mostly presence */
+            add_level(c, dice_once_in(dice, 8) ? 1 : 0); /* mostly presence */
         else if (read_a_one(c) && !any)
             add_level(c, 0);
         else
@@ -378,15 +374,6 @@ static void disturb(struct dice *dice, struct feed_case *c)
     }
 }
 
-/* Mostly enough, at times more or less. */
-static size_t some_room(struct dice *dice, size_t needed)
-{
-    if (dice_once_in(dice, 20))
-        return dice_below(dice, needed + 1);
-    return dice_once_in(dice, 4) ? needed + dice_below(dice, SPARE_ROOM)
-                                 : needed;
-}
-
 void feed_generated_case(struct feed_case *c, uint64_t seed, uint64_t number)
 {
     struct dice dice = dice_for(seed + 4, ~number);
@@ -397,8 +384,8 @@ void feed_generated_case(struct feed_case *c, uint64_t seed, uint64_t number)
     else
         search_levels(&dice, c);
     disturb(&dice, c);
-    c->trace = some_room(&dice, feed_trace_room(c->length));
-    c->codes = some_room(&dice, feed_code_room(c->length));
-    c->expected = ANY_END;
+    c->trace = room_by_dice(&dice, feed_trace_room(c->length));
+    c->codes = room_by_dice(&dice, feed_code_room(c->length));
+    c->expected = ANY_NUMBER;
     c->null = dice_once_in(&dice, 2);
 }

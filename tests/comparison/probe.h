@@ -1,5 +1,5 @@
 /*
- * Functions of the crate probe: what the host's interface does not have, for
+ * Functions of the crate test_exports: what the host's interface does not have, for
  * the comparison only.
  */
 #ifndef PROBE_H
@@ -20,6 +20,17 @@ uint32_t probe_drive(const uint8_t *levels, size_t levels_length,
                      uint8_t *trace, size_t trace_length,
                      uint8_t *codes, size_t codes_length,
                      uint64_t *events, uint64_t *completed);
+
+/*
+ * How many devices are looked at for the level of each event of a trace: 0
+ * where the master sends 0, the place from 1 of the first that pulls low, all
+ * where none does, and 255 for an event that is no slot.  Returns 0, 1 to 6
+ * and 11 as the run does, or 7 where there is room for fewer than the events; nothing is
+ * written then.
+ */
+uint32_t probe_looked(const uint8_t *image, size_t image_length,
+                      const uint8_t *trace, size_t trace_length,
+                      uint8_t *looked, size_t looked_length);
 
 /*
  * The bytes of a DS1982's fields that are still to be read, copied as far as

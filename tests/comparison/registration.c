@@ -7,10 +7,9 @@
 #include "trial.h"
 #include "troughiron.h"
 
-#include <stdlib.h>
 #include <string.h>
 
-enum { MOST_BYTES = 16, EITHER = 2 };
+enum { MOST_BYTES = 16 };
 
 static void library_check(struct given *g)
 {
@@ -33,19 +32,16 @@ struct registration {
     struct trial trial;
     uint8_t bytes[MOST_BYTES];
     size_t length;
-    uint64_t expected; /* 0, 1 or EITHER */
+    unsigned expected; /* 0, 1 or ANY_NUMBER */
     int null;          /* whether no bytes are a null pointer */
-    uint64_t answers[EITHER];
+    uint64_t answers[2];
 };
 
 static void *registration_create(void)
 {
-    struct registration *const r = calloc(1, sizeof *r);
+    struct registration *const r =
+        subject_allocate("registration check", sizeof *r);
 
-    if (!r) {
-        perror("registration check");
-        exit(2);
-    }
     trial_create(&r->trial, &form);
     return r;
 }
@@ -133,7 +129,7 @@ static const struct {
 
 static const char *registration_group(size_t group)
 {
-    return group < sizeof groups / sizeof *groups ? groups[group].name : NULL;
+    return GROUP_NAME(groups, group);
 }
 
 static int registration_small(void *state, size_t group, size_t number)
@@ -167,7 +163,7 @@ static void registration_generated(void *state, uint64_t seed,
     if (r->length > 0 && dice_once_in(&dice, 8))
         r->bytes[dice_below(&dice, r->length)] ^=
             (uint8_t)(1u << dice_below(&dice, 8));
-    r->expected = EITHER;
+    r->expected = ANY_NUMBER;
     r->null = dice_once_in(&dice, 2);
 }
 
@@ -175,14 +171,8 @@ static void registration_generated(void *state, uint64_t seed,
 
 static struct difference try_case(struct registration *r)
 {
-    struct difference d;
-
     trial_lend(&r->trial, 0, r->bytes, r->length, r->null);
-    d = trial_call(&r->trial, NULL);
-    if (d.aspect == ALIKE && r->expected != EITHER
-        && trial_returned(&r->trial) != r->expected)
-        return trial_claim("what the case is one for");
-    return d;
+    return trial_expect(&r->trial, trial_call(&r->trial, NULL), r->expected);
 }
 
 static int registration_differs(void *state)

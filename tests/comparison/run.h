@@ -4,15 +4,15 @@
 
 #include "bench.h"
 #include "digit.h"
+#include "subject.h"
 #include "trace.h"
 
 #include <stddef.h>
 #include <stdint.h>
 
-enum {
-    ANY_NUMBER = 255, /* no number is expected: alike will do */
-    LAST_NUMBER = 7   /* the highest refusal of a run */
-};
+/* The refusals of a run, in the order in which they are looked for. */
+enum { RUN_REFUSALS = 8, LAST_NUMBER = 11 };
+extern const unsigned run_refusals[RUN_REFUSALS];
 
 /* What a run is given.  The image is the bytes and the length of the bench. */
 struct run_case {
@@ -26,6 +26,14 @@ struct run_case {
 /* The small cases; NULL and 0 past the last, as in struct subject. */
 const char *run_small_group(size_t group);
 int run_small_case(struct run_case *c, size_t group, size_t number);
+
+/*
+ * A case of a group that a function makes.  What that does not say: the call
+ * is answered, there is room for the answers and at times a little more, empty
+ * buffers are null in every other case.
+ */
+int run_case_of(struct run_case *c, int (*make)(struct run_case *, size_t),
+                size_t number);
 
 void run_generated_case(struct run_case *c, uint64_t seed, uint64_t number);
 

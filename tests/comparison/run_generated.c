@@ -5,6 +5,7 @@
 #include "run.h"
 
 #include "damage.h"
+#include "room.h"
 #include "second.h"
 #include "some_bench.h"
 
@@ -35,10 +36,13 @@ struct session {
  */
 static void learn(struct session *s)
 {
+    uint64_t copied;
+
     if (s->learned == 0)
         memcpy(s->image, s->bench->bytes, s->bench->length);
     second_run(s->image, s->bench->length, s->trace->events + s->learned,
-               s->start + 1 - s->learned, s->answers, sizeof s->answers);
+               s->start + 1 - s->learned, s->answers, sizeof s->answers,
+               &copied);
     s->learned = s->start;
 }
 
@@ -392,7 +396,7 @@ static void transactions(struct session *s)
     const size_t favourite = s->bench->count ? below(s, s->bench->count) : 0;
     const size_t count = some_transactions(s);
 
-    if (once_in(s, 20)) /* before any reset */
+    if (once_in(s, 100)) /* begins within a transaction: is refused */
         send_any_bits(s, below(s, 40));
     for (size_t i = 0; i < count && s->trace->length < MOST_EVENTS; i++)
         transaction(s, some_device(s, favourite));
@@ -449,28 +453,10 @@ static void some_session(struct dice *dice, struct run_case *c)
 /* ------------------------------------------------------------------ */
 /* Cases                                                               */
 
-/* Mostly just enough, at times more or less. */
-static size_t some_room(struct dice *dice, size_t length)
-{
-    switch (dice_below(dice, 40)) {
-    case 0:
-        return dice_below(dice, length + 1);
-    case 1:
-        return length - (length > 0);
-    case 2:
-    case 3:
-    case 4:
-    case 5:
-        return length + dice_below(dice, 40);
-    default:
-        return length;
-    }
-}
-
 /* A damage for any of the refusals, each as often as the others. */
 static size_t which_damage(struct dice *dice)
 {
-    const unsigned number = 1 + (unsigned)dice_below(dice, LAST_NUMBER);
+    const unsigned number = run_refusals[dice_below(dice, RUN_REFUSALS)];
     size_t damage;
 
     do
@@ -504,7 +490,7 @@ void run_generated_case(struct run_case *c, uint64_t seed, uint64_t number)
 
     some_bench(&dice, &c->bench, some_count(&dice));
     some_session(&dice, c);
-    c->answers = some_room(&dice, c->trace.length);
+    c->answers = room_by_dice(&dice, c->trace.length);
     c->expected = ANY_NUMBER;
     c->null = dice_once_in(&dice, 2);
     if (dice_once_in(&dice, 6))

@@ -6,9 +6,7 @@
 #include "run.h"
 
 #include "damage.h"
-
-/* Room for the answers that a group leaves open: see run_small_case. */
-static const size_t AS_THE_TRACE = SIZE_MAX;
+#include "room.h"
 
 /* ------------------------------------------------------------------ */
 /* Benches                                                             */
@@ -43,6 +41,16 @@ static void bench_of_one(struct run_case *c, enum kind kind)
     bench_of(c, &kind, 1);
 }
 
+/* Edition 1; edition 2 and good; edition 2 and flat, where it can be. */
+enum { BATTERIES_OF_ONE = 3 };
+
+static void bench_of_one_with(struct run_case *c, enum kind kind,
+                              size_t batteries)
+{
+    bench_of_one(c, kind);
+    bench_set_batteries(&c->bench, batteries);
+}
+
 /* A bench of one device, or, one past the last kind, of none. */
 static void bench_of_one_or_none(struct run_case *c, size_t kind)
 {
@@ -58,6 +66,16 @@ static void bench_of_two(struct run_case *c, size_t number)
                                 (enum kind)(number / KINDS) };
 
     bench_of(c, kinds, 2);
+}
+
+/* Edition 1, and edition 2 with every set of flat ones. */
+enum { BATTERIES_OF_TWO = 5 };
+
+static void bench_of_two_with(struct run_case *c, size_t number,
+                              size_t batteries)
+{
+    bench_of_two(c, number);
+    bench_set_batteries(&c->bench, batteries);
 }
 
 /* The code of the only device; zeros where there is none. */
@@ -203,14 +221,15 @@ static void after_rom_command(struct trace *t, const uint8_t *code, size_t way)
     }
 }
 
-/* Every ROM command byte on each kind. */
+/* Every ROM command byte on each kind, good and flat. */
 static int rom_commands(struct run_case *c, size_t number)
 {
     const enum kind kind = (enum kind)digit(&number, KINDS);
+    const size_t batteries = digit(&number, BATTERIES_OF_ONE);
     const size_t way = digit(&number, 4);
     const uint8_t command = (uint8_t)digit(&number, 256);
 
-    bench_of_one(c, kind);
+    bench_of_one_with(c, kind, batteries);
     trace_event(&c->trace, RESET);
     trace_byte(&c->trace, command);
     after_rom_command(&c->trace, only_code(&c->bench), way);
@@ -280,28 +299,33 @@ static void after_memory_command(struct run_case *c, size_t way)
     }
 }
 
-/* Every memory command byte on each kind. */
+/* Every memory command byte on each kind, good and flat. */
 static int memory_commands(struct run_case *c, size_t number)
 {
     const enum kind kind = (enum kind)digit(&number, KINDS);
+    const size_t batteries = digit(&number, BATTERIES_OF_ONE);
     const size_t way = digit(&number, WAYS_AFTER_MEMORY_COMMAND);
     const uint8_t command = (uint8_t)digit(&number, 256);
 
-    bench_of_one(c, kind);
+    bench_of_one_with(c, kind, batteries);
     trace_skip(&c->trace);
     trace_byte(&c->trace, command);
     after_memory_command(c, way);
     return number == 0;
 }
 
-/* Every pair of kinds under Skip ROM with every memory command byte. */
+/*
+ * Every pair of kinds under Skip ROM with every memory command byte, either of
+ * them good or flat.
+ */
 static int pairs(struct run_case *c, size_t number)
 {
     const size_t kinds = digit(&number, KINDS * KINDS);
+    const size_t batteries = digit(&number, BATTERIES_OF_TWO);
     const size_t way = digit(&number, WAYS_AFTER_MEMORY_COMMAND);
     const uint8_t command = (uint8_t)digit(&number, 256);
 
-    bench_of_two(c, kinds);
+    bench_of_two_with(c, kinds, batteries);
     trace_skip(&c->trace);
     trace_byte(&c->trace, command);
     after_memory_command(c, way);
@@ -315,11 +339,12 @@ static int pairs(struct run_case *c, size_t number)
 static int wrong_turns(struct run_case *c, size_t number)
 {
     const enum kind kind = (enum kind)digit(&number, KINDS);
+    const size_t batteries = digit(&number, BATTERIES_OF_ONE);
     const int match = digit(&number, 2) == 0;
     const size_t bit = digit(&number, CODE_BITS);
     uint8_t code[CODE_BYTES];
 
-    bench_of_one(c, kind);
+    bench_of_one_with(c, kind, batteries);
     for (size_t i = 0; i < CODE_BYTES; i++)
         code[i] = only_code(&c->bench)[i];
     code[bit / 8] ^= (uint8_t)(1u << bit % 8);
@@ -337,11 +362,12 @@ static int wrong_turns(struct run_case *c, size_t number)
 static int forks(struct run_case *c, size_t number)
 {
     const size_t kinds = digit(&number, KINDS * KINDS);
+    const size_t batteries = digit(&number, BATTERIES_OF_TWO);
     const size_t way = digit(&number, 4);
     const size_t bit = digit(&number, 48);
     const uint8_t *code;
 
-    bench_of_two(c, kinds);
+    bench_of_two_with(c, kinds, batteries);
     bench_give_code(&c->bench, 0, 0x123456789ABC);
     bench_give_code(&c->bench, 1, 0x123456789ABC ^ (uint64_t)1 << bit);
     code = bench_see(&c->bench, way % 2, 0);
@@ -423,6 +449,50 @@ static int reads_to_the_end(struct run_case *c, size_t number)
     return number == 0;
 }
 
+/* Every address of a DS1993, which a DS1992 has too or not; every bit alone. */
+static uint16_t some_target(size_t *number)
+{
+    enum { ADDRESSES = 512 + 20, BITS = 16 };
+    const size_t which = digit(number, ADDRESSES + BITS);
+
+    return (uint16_t)(which < ADDRESSES ? which : 1u << (which - ADDRESSES));
+}
+
+/* What can follow a read that may have moved the target. */
+static void after_read(struct trace *t, uint16_t address, size_t way)
+{
+    switch (way) {
+    case 0: /* the trace ends there */
+        break;
+    case 1:
+        read_scratchpad(t, 24 + 8 * PAGE_BYTES);
+        break;
+    case 2: /* the pattern as before the read */
+        copy_scratchpad(t, 0x0026, 0xE9, 10);
+        break;
+    default: /* the pattern as after it */
+        copy_scratchpad(t, address, 0xE9, 10);
+    }
+}
+
+/* A read cut at every bit of its address, or within its first bytes. */
+static int read_targets(struct run_case *c, size_t number)
+{
+    enum { ADDRESS_BITS = 16, SLOTS = 9 };
+    const enum kind kind = (enum kind)digit(&number, 2);
+    const uint16_t address = some_target(&number);
+    const size_t way = digit(&number, 4);
+    const size_t bits = digit(&number, ADDRESS_BITS + SLOTS + 1);
+
+    bench_of_one(c, kind);
+    trace_skip(&c->trace);
+    trace_byte(&c->trace, READ_MEMORY);
+    trace_bits(&c->trace, address, bits < ADDRESS_BITS ? bits : ADDRESS_BITS);
+    trace_read(&c->trace, bits < ADDRESS_BITS ? 0 : bits - ADDRESS_BITS);
+    after_read(&c->trace, address, way);
+    return number == 0;
+}
+
 /* The scratchpad read from every offset to its end, and on. */
 static int scratchpad_reads(struct run_case *c, size_t number)
 {
@@ -484,6 +554,34 @@ static int copies(struct run_case *c, size_t number)
     registers[1] = (uint8_t)(target >> 8);
     registers[2] = es;
     copy_scratchpad(&c->trace, target, es & mask, 10);
+    return number == 0;
+}
+
+/*
+ * Two devices that copy at once, and again: every offset and ending offset, in
+ * pages that both have, that only a DS1993 has, and that none has.
+ */
+static int copies_of_two(struct run_case *c, size_t number)
+{
+    static const uint16_t pages[] = { 0x0020, 0x0060, 0x0080, 0x01E0, 0x0200 };
+    const enum kind kinds[] = { (enum kind)digit(&number, 2),
+                                (enum kind)digit(&number, 2) };
+    const size_t page = digit(&number, sizeof pages / sizeof *pages);
+    const uint16_t target =
+        (uint16_t)(pages[page] + digit(&number, PAGE_BYTES));
+    const uint8_t ending = (uint8_t)digit(&number, PAGE_BYTES);
+
+    bench_of(c, kinds, 2);
+    for (size_t i = 0; i < 2; i++) {
+        uint8_t *const registers = bench_at(&c->bench, i, TA1);
+
+        registers[0] = (uint8_t)target;
+        registers[1] = (uint8_t)(target >> 8);
+        registers[2] = ending;
+    }
+    copy_scratchpad(&c->trace, target, ending, 4);
+    copy_scratchpad(&c->trace, target, ending, 4); /* AA is set: no match */
+    copy_scratchpad(&c->trace, target, 0x80 | ending, 4);
     return number == 0;
 }
 
@@ -602,33 +700,43 @@ static void cut(struct trace *t, size_t way, size_t place)
  * A typical session that ends, is reset, gets an event too many or lacks one
  * at every place.
  */
-static int cuts(struct run_case *c, enum kind kind, size_t number)
+static int cuts(struct run_case *c, enum kind kind, size_t batteries,
+                size_t number)
 {
     const size_t way = digit(&number, WAYS_TO_CUT);
     size_t place;
 
-    bench_of_one(c, kind);
+    bench_of_one_with(c, kind, batteries);
     typical_session(c, kind);
     place = digit(&number, c->trace.length + 1);
     cut(&c->trace, way, place);
-    if (way == PULSE_THERE && kind != DS1982)
+    if (c->trace.length > 0 && c->trace.events[0] != RESET)
+        c->expected = 11;
+    else if (way == PULSE_THERE && kind != DS1982)
         c->expected = 6;
     return number == 0;
 }
 
 static int cuts_ds1992(struct run_case *c, size_t number)
 {
-    return cuts(c, DS1992, number);
+    return cuts(c, DS1992, 0, number);
 }
 
 static int cuts_ds1993(struct run_case *c, size_t number)
 {
-    return cuts(c, DS1993, number);
+    return cuts(c, DS1993, 0, number);
 }
 
 static int cuts_ds1982(struct run_case *c, size_t number)
 {
-    return cuts(c, DS1982, number);
+    return cuts(c, DS1982, 0, number);
+}
+
+static int cuts_flat(struct run_case *c, size_t number)
+{
+    const enum kind kind = (enum kind)digit(&number, 2);
+
+    return cuts(c, kind, BATTERIES_OF_ONE - 1, number);
 }
 
 /* ------------------------------------------------------------------ */
@@ -647,14 +755,19 @@ static int empty_bench(struct run_case *c, size_t number)
     return number == 0;
 }
 
-/* Every trace of up to six bytes 0 to 4, on no device and one of each kind. */
+/*
+ * Every trace of up to six bytes 0 to 4, from the start or after a reset, on
+ * no device and one of each kind.
+ */
 static int short_traces(struct run_case *c, size_t number)
 {
     const size_t kind = digit(&number, KINDS + 1);
+    const size_t resets = digit(&number, 2);
     size_t length = 0;
 
     bench_of_one_or_none(c, kind);
     c->expected = ANY_NUMBER;
+    trace_repeat(&c->trace, RESET, resets);
     for (size_t traces = 1; number >= traces; traces *= 5) {
         number -= traces;
         length++;
@@ -662,8 +775,8 @@ static int short_traces(struct run_case *c, size_t number)
     if (length > 6)
         return 0;
     for (size_t i = 0; i < length; i++)
-        c->trace.events[i] = (uint8_t)digit(&number, 5);
-    c->trace.length = length;
+        c->trace.events[resets + i] = (uint8_t)digit(&number, 5);
+    c->trace.length = resets + length;
     return 1;
 }
 
@@ -679,16 +792,18 @@ static int lengths(struct run_case *c, size_t number)
     return number == 0;
 }
 
-/* Every number of devices that a count can say. */
+/* Every number of devices that a count can say; all good, or some flat. */
 static int counts(struct run_case *c, size_t number)
 {
     enum kind kinds[MOST_ENTRIES];
     const size_t kind = digit(&number, KINDS);
+    const size_t batteries = digit(&number, 2) * 0xB5A3;
     const size_t count = digit(&number, MOST_ENTRIES + 1);
 
     for (size_t i = 0; i < count; i++) /* only DS1982 are small enough */
         kinds[i] = count > MOST_DEVICES + 1 ? DS1982 : (enum kind)kind;
     bench_of(c, kinds, count);
+    bench_set_batteries(&c->bench, batteries);
     read_from(&c->trace, READ_MEMORY, 0x0000, 40);
     c->expected = count > MOST_DEVICES ? 1 : 0;
     return number == 0;
@@ -715,13 +830,19 @@ static int limits(struct run_case *c, size_t number)
 /* ------------------------------------------------------------------ */
 /* Refusals                                                            */
 
-/* Four devices or eight: of every kind, and more than one of some kinds. */
+enum { BENCHES_TO_DAMAGE = 4 };
+
+/*
+ * Four devices or eight: of every kind, and more than one of some kinds; of
+ * edition 1, or of edition 2 with some of them flat.
+ */
 static void bench_to_damage(struct run_case *c, size_t which)
 {
     static const enum kind kinds[] = { DS1992, DS1993, DS1982, DS1982,
                                        DS1992, DS1982, DS1993, DS1993 };
 
-    bench_of(c, kinds, which == 0 ? 4 : 8);
+    bench_of(c, kinds, which % 2 == 0 ? 4 : 8);
+    bench_set_batteries(&c->bench, which < 2 ? 0 : 1 + 0x52);
     read_from(&c->trace, READ_MEMORY, 0x0010, 20);
     c->answers = c->trace.length;
 }
@@ -729,7 +850,7 @@ static void bench_to_damage(struct run_case *c, size_t which)
 /* Each cause alone, in many ways. */
 static int refusals(struct run_case *c, size_t number)
 {
-    const size_t bench = digit(&number, 2);
+    const size_t bench = digit(&number, BENCHES_TO_DAMAGE);
     const size_t damage = digit(&number, damage_count());
     const size_t choice = digit(&number, 1024);
 
@@ -739,11 +860,11 @@ static int refusals(struct run_case *c, size_t number)
     return number == 0;
 }
 
-/* Two causes at once, in some ways: the lower number wins. */
+/* Two causes at once, in some ways: the one that is looked for first wins. */
 static int refusals_in_pairs(struct run_case *c, size_t number)
 {
     struct dice dice = dice_for(3, number);
-    const size_t bench = digit(&number, 2);
+    const size_t bench = digit(&number, BENCHES_TO_DAMAGE);
     const size_t later = digit(&number, damage_count());
     const size_t sooner = digit(&number, damage_count());
 
@@ -753,6 +874,99 @@ static int refusals_in_pairs(struct run_case *c, size_t number)
         c->expected = damage_number(later);
     if (sooner < later && damage_do(sooner, c, dice_below(&dice, 10000)))
         c->expected = damage_number(sooner);
+    return number == 0;
+}
+
+/* The kind of a family byte; KINDS for one that is not built. */
+static size_t kind_of_family(size_t family)
+{
+    size_t kind = 0;
+
+    while (kind < KINDS && kind_family((enum kind)kind) != family)
+        kind++;
+    return kind;
+}
+
+/*
+ * The only reason to refuse: the edition, the family or the battery of an
+ * entry, each any byte.
+ */
+static unsigned number_of_entry(size_t edition, size_t kind, size_t battery)
+{
+    if (edition != 1 && edition != 2)
+        return 1;
+    if (kind == KINDS || battery > 1)
+        return 1;
+    return battery == 1 && (edition == 1 || kind == DS1982) ? 1 : 0;
+}
+
+/* An entry beside a good one of a DS1982, with bytes of any value. */
+static void bench_of_entry(struct run_case *c, size_t edition, size_t family,
+                           size_t battery)
+{
+    const size_t kind = kind_of_family(family);
+    const enum kind kinds[] = { DS1982,
+                                kind < KINDS ? (enum kind)kind : DS1992 };
+    uint8_t *const entry = c->bench.bytes + TABLE + ENTRY_BYTES;
+
+    bench_of(c, kinds, 2);
+    c->bench.bytes[EDITION] = (uint8_t)edition;
+    entry[0] = (uint8_t)family;
+    entry[1] = (uint8_t)battery;
+    read_from(&c->trace, READ_MEMORY, 0x0020, 24);
+    c->expected = number_of_entry(edition, kind, battery);
+}
+
+/* Every family with every second byte, in both editions. */
+static int second_bytes(struct run_case *c, size_t number)
+{
+    const size_t edition = 1 + digit(&number, 2);
+    const size_t family = digit(&number, 256);
+    const size_t battery = digit(&number, 256);
+
+    bench_of_entry(c, edition, family, battery);
+    return number == 0;
+}
+
+/* Every edition, with a second byte that some edition knows, and others. */
+static int editions(struct run_case *c, size_t number)
+{
+    static const uint8_t batteries[] = { 0, 1, 2, 255 };
+    const enum kind kind = (enum kind)digit(&number, KINDS);
+    const size_t battery = batteries[digit(&number, 4)];
+    const size_t edition = digit(&number, 256);
+
+    bench_of_entry(c, edition, kind_family(kind), battery);
+    return number == 0;
+}
+
+/*
+ * Every first event, with a byte over 3, a pulse that is
+ * refused, and too little room, each there or not.
+ */
+static int first_events(struct run_case *c, size_t number)
+{
+    static const enum event events[] = { WRITE_ZERO, WRITE_ONE, RESET, PULSE };
+    const size_t kind = digit(&number, KINDS + 1);
+    const enum event first = events[digit(&number, 4)];
+    const int byte = digit(&number, 2) == 1;
+    const int pulse = digit(&number, 2) == 1;
+    const int room = digit(&number, 2) == 1;
+    const int refused = (pulse || first == PULSE) && kind < DS1982;
+
+    bench_of_one_or_none(c, kind);
+    trace_event(&c->trace, first);
+    trace_bits(&c->trace, SKIP_ROM, 8);
+    if (pulse)
+        c->trace.events[5] = PULSE;
+    if (byte)
+        c->trace.events[7] = 4;
+    c->answers = room ? c->trace.length - 1 : c->trace.length;
+    c->expected = byte              ? 5
+                  : first != RESET ? 11
+                  : refused        ? 6
+                  : room           ? 7
+                                   : 0;
     return number == 0;
 }
 
@@ -772,17 +986,23 @@ static const struct {
     { "programming_slots", programming_slots },
     { "scratchpad_reads", scratchpad_reads },
     { "reads_to_the_end", reads_to_the_end },
+    { "read_targets", read_targets },
     { "cuts_ds1992", cuts_ds1992 },
     { "cuts_ds1993", cuts_ds1993 },
     { "cuts_ds1982", cuts_ds1982 },
+    { "cuts_flat", cuts_flat },
     { "empty_bench", empty_bench },
     { "lengths", lengths },
     { "counts", counts },
     { "limits", limits },
     { "refusals", refusals },
     { "refusals_in_pairs", refusals_in_pairs },
+    { "first_events", first_events },
+    { "editions", editions },
     { "short_traces", short_traces },
+    { "second_bytes", second_bytes },
     { "data_bits", data_bits },
+    { "copies_of_two", copies_of_two },
     { "copies", copies },
     { "programmed_bytes", programmed_bytes },
     { "addresses", addresses },
@@ -790,23 +1010,23 @@ static const struct {
 
 const char *run_small_group(size_t group)
 {
-    return group < sizeof groups / sizeof *groups ? groups[group].name : NULL;
+    return GROUP_NAME(groups, group);
 }
 
-/*
- * What a group does not say: the run is answered, there is room for the
- * answers and at times a little more, empty buffers are null in every other
- * case.
- */
-int run_small_case(struct run_case *c, size_t group, size_t number)
+int run_case_of(struct run_case *c, int (*make)(struct run_case *, size_t),
+                size_t number)
 {
     c->trace.length = 0;
-    c->answers = AS_THE_TRACE;
+    c->answers = ENOUGH;
     c->expected = 0;
     c->null = number % 2 == 0;
-    if (!groups[group].make(c, number))
+    if (!make(c, number))
         return 0;
-    if (c->answers == AS_THE_TRACE)
-        c->answers = c->trace.length + number % 3;
+    c->answers = room_or_enough(c->answers, c->trace.length, number % 3);
     return 1;
+}
+
+int run_small_case(struct run_case *c, size_t group, size_t number)
+{
+    return run_case_of(c, groups[group].make, number);
 }

@@ -5,11 +5,8 @@
 #include "search.h"
 
 #include "second.h"
-#include "subject.h"
 #include "trial.h"
 #include "troughiron.h"
-
-#include <stdlib.h>
 
 /* Buffers and numbers of the call. */
 enum { IMAGE, CODES, TRACE };
@@ -54,12 +51,8 @@ struct search {
 
 static void *search_create(void)
 {
-    struct search *const s = calloc(1, sizeof *s);
+    struct search *const s = subject_allocate("search", sizeof *s);
 
-    if (!s) {
-        perror("search");
-        exit(2);
-    }
     trial_create(&s->trial, &form);
     return s;
 }
@@ -77,7 +70,9 @@ static int refused_changes_nothing(const struct trial *t)
            && numbers[SLOTS] == UNWRITTEN_NUMBER;
 }
 
-static struct difference look_at_claims(const struct search *s)
+/* What is claimed of a search that was answered, both alike. */
+static struct difference look_at_claims(const struct search *s,
+                                        struct difference d)
 {
     const struct trial *const t = &s->trial;
     const uint64_t *const numbers = t->given[LIBRARY].numbers;
@@ -86,34 +81,32 @@ static struct difference look_at_claims(const struct search *s)
                                         numbers[PASSES], numbers[RESETS],
                                         numbers[SLOTS] };
     const struct bench *const b = &s->now.bench;
-    const char *broken;
+    const char *const broken = search_claim_broken(b, &found);
 
-    if (s->now.expected != NO_NUMBER && trial_returned(t) != s->now.expected)
-        return trial_claim("the number that the case is one for");
-    if (trial_returned(t) != 0)
-        return refused_changes_nothing(t)
-                   ? (struct difference){ .aspect = ALIKE }
-                   : trial_claim("a refused search changes nothing");
-    broken = search_claim_broken(b, &found);
-    if (!broken && !trial_kept(t, CODES, search_code_room(b->count)))
-        broken = "bytes past the codes stay as they were";
-    if (!broken && !trial_kept(t, TRACE, search_trace_room(b->count)))
-        broken = "bytes past the trace stay as they were";
-    return broken ? trial_claim(broken)
-                  : (struct difference){ .aspect = ALIKE };
+    if (broken)
+        return trial_claim(broken);
+    d = trial_expect_kept(t, d, CODES, search_code_room(b->count));
+    return trial_expect_kept(t, d, TRACE, search_trace_room(b->count));
 }
 
 static struct difference try_case(struct search *s)
 {
     const struct search_case *const now = &s->now;
+    const struct trial *const t = &s->trial;
     struct difference d;
 
     trial_lend(&s->trial, IMAGE, now->bench.bytes, now->bench.length,
                now->null);
     trial_lend(&s->trial, CODES, NULL, now->codes, now->null);
     trial_lend(&s->trial, TRACE, NULL, now->trace, now->null);
-    d = trial_call(&s->trial, NULL);
-    return d.aspect == ALIKE ? look_at_claims(s) : d;
+    d = trial_expect(t, trial_call(&s->trial, NULL), now->expected);
+    if (d.aspect != ALIKE)
+        return d;
+    if (trial_returned(t) == 0)
+        return look_at_claims(s, d);
+    return refused_changes_nothing(t)
+               ? d
+               : trial_claim("a refused search changes nothing");
 }
 
 static int search_differs(void *state)
@@ -139,7 +132,7 @@ static void without_device(const struct search_case *c, size_t device,
     bench_take_out(&less->bench, device);
     less->codes -= c->codes < CODE_BYTES ? c->codes : CODE_BYTES;
     less->trace -= c->trace < PASS_EVENTS ? c->trace : PASS_EVENTS;
-    less->expected = NO_NUMBER;
+    less->expected = ANY_NUMBER;
 }
 
 /* Keeps a case without a device if that still differs. */
@@ -171,7 +164,7 @@ static void show_case(FILE *out, const struct search *s)
     bench_show(out, &now->bench);
     fprintf(out, "room for %zu bytes of codes and %zu events%s\n", now->codes,
             now->trace, now->null ? ", empty buffers are null" : "");
-    if (now->expected != NO_NUMBER)
+    if (now->expected != ANY_NUMBER)
         fprintf(out, "the case is one for %u\n", now->expected);
 }
 

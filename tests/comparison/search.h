@@ -3,6 +3,7 @@
 #define SEARCH_H
 
 #include "bench.h"
+#include "subject.h"
 
 #include <stddef.h>
 #include <stdint.h>
@@ -11,15 +12,14 @@ enum {
     PASS_EVENTS = 201, /* a reset and 200 slots */
     MOST_CODE_BYTES = MOST_DEVICES * CODE_BYTES,
     MOST_SEARCH_EVENTS = MOST_DEVICES * PASS_EVENTS,
-    SPARE_ROOM = 64,
-    NO_NUMBER = 255 /* none is expected: alike will do */
+    SPARE_ROOM = 64
 };
 
 /* What a search is given.  The image is the bytes and length of the bench. */
 struct search_case {
     struct bench bench;
     size_t codes, trace; /* bytes of room */
-    unsigned expected;   /* the number to be returned, or NO_NUMBER */
+    unsigned expected;   /* the number to be returned, or ANY_NUMBER */
     int null;            /* whether an empty buffer is a null pointer */
 };
 

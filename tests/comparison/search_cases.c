@@ -7,6 +7,7 @@
 #include "bench_damage.h"
 #include "dice.h"
 #include "digit.h"
+#include "room.h"
 #include "some_bench.h"
 
 /* ------------------------------------------------------------------ */
@@ -26,13 +27,29 @@ static void bench_of_kinds(struct bench *b, size_t way, size_t count)
     bench_make(b, kinds, count, count);
 }
 
-/* Every number of devices that a count can say. */
+/*
+ * Editions and batteries by one digit: edition 1, edition 2 with all good, some
+ * flat, or all.
+ */
+enum { WAYS_OF_BATTERIES = 4 };
+
+static void set_batteries(struct bench *b, size_t way)
+{
+    static const size_t sets[WAYS_OF_BATTERIES] = { 0, 1, 0xA5C3972D6B,
+                                                    SIZE_MAX };
+
+    bench_set_batteries(b, sets[way]);
+}
+
+/* Every number of devices that a count can say, good and flat. */
 static int counts(struct search_case *c, size_t number)
 {
     const size_t way = digit(&number, KINDS + 1);
+    const size_t batteries = digit(&number, WAYS_OF_BATTERIES);
     const size_t count = digit(&number, MOST_ENTRIES + 1);
 
     bench_of_kinds(&c->bench, way, count);
+    set_batteries(&c->bench, batteries);
     c->expected = count > MOST_DEVICES ? 1 : 0;
     return number == 0;
 }
@@ -44,10 +61,12 @@ static int serials_in_a_row(struct search_case *c, size_t number)
                                       0x123456789ABC };
     const size_t bases_count = sizeof bases / sizeof *bases;
     const int falling = digit(&number, 2) == 1;
+    const size_t batteries = digit(&number, WAYS_OF_BATTERIES);
     const uint64_t base = bases[digit(&number, bases_count)];
     const size_t count = 2 + digit(&number, 20);
 
     bench_of_kinds(&c->bench, DS1992, count);
+    set_batteries(&c->bench, batteries);
     for (size_t i = 0; i < count; i++)
         bench_give_code(&c->bench, i, base + (falling ? count - i : i));
     return number == 0;
@@ -79,10 +98,12 @@ static int full_subtrees(struct search_case *c, size_t number)
     enum { BITS = 5 };
     const size_t shift = digit(&number, SERIAL_BITS - BITS + 1);
     const size_t way = digit(&number, 2) == 0 ? DS1982 : KINDS;
+    const size_t batteries = digit(&number, WAYS_OF_BATTERIES);
     struct dice dice = dice_for(5, shift);
     const uint64_t base = dice_roll(&dice) & ~(UINT64_C(31) << shift);
 
     bench_of_kinds(&c->bench, way, 1 << BITS);
+    set_batteries(&c->bench, batteries);
     for (size_t i = 0; i < 1 << BITS; i++)
         bench_give_code(&c->bench, i, base | (uint64_t)(i * 13 % 32) << shift);
     return number == 0;
@@ -96,12 +117,10 @@ static int room(struct search_case *c, size_t number)
 {
     static const size_t some[] = { 0, 1, 2, 3, 8 };
     const size_t count = some[digit(&number, 5)];
-    const size_t codes = search_code_room(count) + digit(&number, 5);
-    const size_t trace = search_trace_room(count) + digit(&number, 5);
 
     bench_of_kinds(&c->bench, KINDS, count);
-    c->codes = codes < 2 ? 0 : codes - 2;
-    c->trace = trace < 2 ? 0 : trace - 2;
+    c->codes = room_around(&number, search_code_room(count));
+    c->trace = room_around(&number, search_trace_room(count));
     c->expected = c->codes < search_code_room(count)
                           || c->trace < search_trace_room(count)
                       ? 7
@@ -136,7 +155,7 @@ static int lengths(struct search_case *c, size_t number)
     c->codes = digit(&number, 3);
     c->trace = digit(&number, 4);
     c->null = null;
-    c->expected = NO_NUMBER;
+    c->expected = ANY_NUMBER;
     return number == 0;
 }
 
@@ -170,11 +189,14 @@ static unsigned number_of(size_t which)
     return which < bench_damage_count() ? bench_damage_number(which) : 7;
 }
 
+enum { BENCHES_TO_DAMAGE = 2 * WAYS_OF_BATTERIES };
+
 static void bench_to_damage(struct search_case *c, size_t which)
 {
-    const size_t count = which == 0 ? 4 : 8;
+    const size_t count = which % 2 == 0 ? 4 : 8;
 
     bench_of_kinds(&c->bench, KINDS, count);
+    set_batteries(&c->bench, which / 2);
     c->codes = search_code_room(count);
     c->trace = search_trace_room(count);
 }
@@ -182,7 +204,7 @@ static void bench_to_damage(struct search_case *c, size_t which)
 /* Each cause alone, in many ways. */
 static int refusals(struct search_case *c, size_t number)
 {
-    const size_t bench = digit(&number, 2);
+    const size_t bench = digit(&number, BENCHES_TO_DAMAGE);
     const size_t which = digit(&number, damages());
     const size_t choice = digit(&number, 1024);
 
@@ -196,7 +218,7 @@ static int refusals(struct search_case *c, size_t number)
 static int refusals_in_pairs(struct search_case *c, size_t number)
 {
     struct dice dice = dice_for(6, number);
-    const size_t bench = digit(&number, 2);
+    const size_t bench = digit(&number, BENCHES_TO_DAMAGE);
     const size_t later = digit(&number, damages());
     const size_t sooner = digit(&number, damages());
 
@@ -228,11 +250,8 @@ static const struct {
 
 const char *search_small_group(size_t group)
 {
-    return group < sizeof groups / sizeof *groups ? groups[group].name : NULL;
+    return GROUP_NAME(groups, group);
 }
-
-/* Room that is left open: just enough, and at times a little more. */
-static const size_t ENOUGH = SIZE_MAX;
 
 static size_t devices_of(const struct search_case *c)
 {
@@ -250,10 +269,10 @@ int search_small_case(struct search_case *c, size_t group, size_t number)
     c->null = number % 2 == 0;
     if (!groups[group].make(c, number))
         return 0;
-    if (c->codes == ENOUGH)
-        c->codes = search_code_room(devices_of(c)) + number % 3;
-    if (c->trace == ENOUGH)
-        c->trace = search_trace_room(devices_of(c)) + number % 5;
+    c->codes = room_or_enough(c->codes, search_code_room(devices_of(c)),
+                              number % 3);
+    c->trace = room_or_enough(c->trace, search_trace_room(devices_of(c)),
+                              number % 5);
     return 1;
 }
 
@@ -300,7 +319,7 @@ void search_generated_case(struct search_case *c, uint64_t seed,
     some_bench(&dice, &c->bench, some_devices(&dice));
     c->codes = some_room(&dice, search_code_room(c->bench.count));
     c->trace = some_room(&dice, search_trace_room(c->bench.count));
-    c->expected = NO_NUMBER;
+    c->expected = ANY_NUMBER;
     c->null = dice_once_in(&dice, 2);
     if (dice_once_in(&dice, 6))
         some_damage(&dice, c);

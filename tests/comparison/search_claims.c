@@ -91,11 +91,13 @@ static int trace_can_be_run(const struct bench *b, const uint8_t *trace,
                             size_t events, uint8_t *answers)
 {
     static uint8_t image[BENCH_ROOM];
+    uint64_t copied;
 
     memcpy(image, b->bytes, b->length);
-    return troughiron_run(image, b->length, trace, events, answers, events)
+    return troughiron_run(image, b->length, trace, events, answers, events,
+                          &copied)
                == 0
-           && memcmp(image, b->bytes, b->length) == 0;
+           && copied == 0 && memcmp(image, b->bytes, b->length) == 0;
 }
 
 static int master_goes_the_same_way(size_t count, size_t events,
@@ -130,7 +132,7 @@ const char *search_claim_broken(const struct bench *b,
     if (!counts_are_of_the_devices(b->count, found))
         return "passes, resets and slots are n, n and 200n, or 0, 1 and 0";
     if (!trace_can_be_run(b, found->trace, events, answers))
-        return "the trace can be run, and leaves the image as it was";
+        return "the trace can be run, copies nothing and leaves the image";
     if (!master_goes_the_same_way(b->count, events, found, answers))
         return "a master given the run's answers sends this trace again";
     return NULL;

@@ -40,6 +40,19 @@ static void some_kinds(struct dice *dice, enum kind *kinds, size_t count)
             kinds[i] = (enum kind)dice_below(dice, KINDS);
 }
 
+/* Edition 1, edition 2 with all good, some flat, or all. */
+static void some_batteries(struct dice *dice, struct bench *b)
+{
+    const size_t way = dice_below(dice, 8);
+
+    if (way < 3)
+        return;
+    bench_to_edition_2(b);
+    for (size_t i = 0; i < b->count; i++)
+        if (way == 7 || (way > 3 && dice_once_in(dice, 3)))
+            bench_flatten(b, i);
+}
+
 /* Any serial numbers, or some that share their first or their last bits. */
 static void some_codes(struct dice *dice, struct bench *b)
 {
@@ -114,6 +127,7 @@ void some_bench(struct dice *dice, struct bench *b, size_t count)
 
     some_kinds(dice, kinds, count);
     bench_lay_out(b, kinds, count);
+    some_batteries(dice, b);
     some_codes(dice, b);
     for (size_t i = 0; i < count; i++)
         some_body(dice, b, i);

@@ -10,7 +10,10 @@
 /* A number of devices: few mostly, at times as many as there can be. */
 size_t some_count(struct dice *dice);
 
-/* An accepted image of so many devices, of any kinds and with any contents. */
+/*
+ * An accepted image of so many devices, of any kinds and with any contents, of
+ * either edition.
+ */
 void some_bench(struct dice *dice, struct bench *b, size_t count);
 
 #endif

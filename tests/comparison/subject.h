@@ -10,6 +10,13 @@
 #include <stdint.h>
 #include <stdio.h>
 
+/* The number that a case expects to be returned: none, alike will do. */
+enum { ANY_NUMBER = 0xFFFF };
+
+/* The name of a group in a table of them; NULL past the last. */
+#define GROUP_NAME(groups, group) \
+    ((group) < sizeof(groups) / sizeof *(groups) ? (groups)[group].name : NULL)
+
 struct subject {
     const char *name;
 
@@ -35,7 +42,11 @@ struct subject {
     void (*summary)(const void *state, FILE *out);
 };
 
+/* Room for the state of a subject, all zero; never NULL. */
+void *subject_allocate(const char *name, size_t bytes);
+
 extern const struct subject run_subject;
+extern const struct subject looked_subject;
 extern const struct subject search_subject;
 extern const struct subject registration_subject;
 extern const struct subject feed_subject;

@@ -1,5 +1,7 @@
 #include "trial.h"
 
+#include "subject.h"
+
 #include <signal.h>
 #include <string.h>
 
@@ -151,15 +153,39 @@ int trial_kept(const struct trial *t, size_t buffer, size_t from)
     return 1;
 }
 
+struct difference trial_claim(const char *claim)
+{
+    return (struct difference){ .aspect = CLAIM, .claim = claim };
+}
+
+struct difference trial_expect(const struct trial *t, struct difference d,
+                               unsigned number)
+{
+    if (d.aspect == ALIKE && number != ANY_NUMBER
+        && trial_returned(t) != number)
+        return trial_claim("the number that the case is one for");
+    return d;
+}
+
+struct difference trial_expect_kept(const struct trial *t,
+                                    struct difference d, size_t buffer,
+                                    size_t from)
+{
+    if (d.aspect == ALIKE && !trial_kept(t, buffer, from))
+        return (struct difference){ .aspect = PAST_END, .which = buffer };
+    return d;
+}
+
 int trial_hangs(const struct trial *t)
 {
     return t->faults[LIBRARY].signal == SIGALRM
            || t->faults[SECOND].signal == SIGALRM;
 }
 
-struct difference trial_claim(const char *claim)
+int trial_can_be_cut(const struct trial *t, struct difference d)
 {
-    return (struct difference){ .aspect = CLAIM, .claim = claim };
+    return d.aspect != ALIKE && d.aspect != PAST_END && d.aspect != CLAIM
+           && !trial_hangs(t);
 }
 
 /* ------------------------------------------------------------------ */
@@ -224,6 +250,11 @@ void trial_explain(FILE *out, const struct trial *t, struct difference d)
         break;
     case IN_FRONT:
         fprintf(out, "%s: wrote in front of the %s\n", names[d.program],
+                t->form->buffers[d.which].name);
+        break;
+    case PAST_END:
+        fprintf(out, "both return %llu, and wrote on in the %s\n",
+                (unsigned long long)trial_returned(t),
                 t->form->buffers[d.which].name);
         break;
     case CLAIM:

@@ -53,6 +53,7 @@ enum aspect {
     BYTE,      /* of a buffer */
     ONLY_READ, /* a program wrote into a buffer that it only reads */
     IN_FRONT,  /* a program wrote in front of a buffer */
+    PAST_END,  /* alike, but both wrote past what they hand back */
     CLAIM      /* alike, but not what is said of it */
 };
 
@@ -83,10 +84,26 @@ const uint8_t *trial_bytes(const struct trial *t, size_t buffer);
 /* Whether the library left a buffer as it was, from a place on. */
 int trial_kept(const struct trial *t, size_t buffer, size_t from);
 
+struct difference trial_claim(const char *claim);
+
+/*
+ * What is claimed of a call that is alike so far: the number returned, unless
+ * any will do; and that a buffer is as it was from a place on.
+ */
+struct difference trial_expect(const struct trial *t, struct difference d,
+                               unsigned number);
+struct difference trial_expect_kept(const struct trial *t,
+                                    struct difference d, size_t buffer,
+                                    size_t from);
+
 /* Whether one of the programs did not come back in time. */
 int trial_hangs(const struct trial *t);
 
-struct difference trial_claim(const char *claim);
+/*
+ * Whether a difference is one to be looked for in less of the same input: a
+ * claim need not hold of that, and a call that hangs takes too long.
+ */
+int trial_can_be_cut(const struct trial *t, struct difference d);
 
 void trial_explain(FILE *out, const struct trial *t, struct difference d);
 

@@ -11,7 +11,6 @@
 #include "trace.h"
 #include "trial.h"
 
-#include <stdlib.h>
 #include <string.h>
 
 /* Buffers of the call. */
@@ -83,12 +82,8 @@ static void fill_fields(struct view *v)
 
 static void *view_create(void)
 {
-    struct view *const v = calloc(1, sizeof *v);
+    struct view *const v = subject_allocate("view", sizeof *v);
 
-    if (!v) {
-        perror("view");
-        exit(2);
-    }
     trial_create(&v->trial, &form);
     fill_fields(v);
     return v;
@@ -103,12 +98,23 @@ static const uint8_t commands[] = { READ_DATA,  READ_DATA_BY_PAGE,
 
 enum { COMMANDS = sizeof commands };
 
-/* Every command at every address: one high byte of it to a case. */
+/*
+ * Every address, for the commands that name a field and some that name none:
+ * one high byte of it to a case.
+ */
 static int view_addresses(struct view_case *c, size_t number)
 {
-    c->command = (uint8_t)digit(&number, 256);
+    c->command = commands[digit(&number, COMMANDS)];
     c->address = 256 * digit(&number, 256);
     c->addresses = 256;
+    return number == 0;
+}
+
+/* Every command, at addresses that have every low and every high byte. */
+static int view_commands(struct view_case *c, size_t number)
+{
+    c->command = (uint8_t)digit(&number, 256);
+    c->address = 257 * digit(&number, 256);
     return number == 0;
 }
 
@@ -151,13 +157,14 @@ static const struct {
     int (*make)(struct view_case *, size_t);
 } groups[] = {
     { "view_rooms", view_rooms },
-    { "view_lengths", view_lengths },
+    { "view_commands", view_commands },
     { "view_addresses", view_addresses },
+    { "view_lengths", view_lengths },
 };
 
 static const char *view_group(size_t group)
 {
-    return group < sizeof groups / sizeof *groups ? groups[group].name : NULL;
+    return GROUP_NAME(groups, group);
 }
 
 /* What a group does not say: one address, fields and room as they are to be. */
@@ -215,9 +222,8 @@ static struct difference try_address(struct view *v, size_t address)
         v->parts++;
     else
         v->empty++;
-    if (!trial_kept(&v->trial, INTO, (size_t)trial_returned(&v->trial)))
-        return trial_claim("bytes past the copied ones stay as they were");
-    return d;
+    return trial_expect_kept(&v->trial, d, INTO,
+                             (size_t)trial_returned(&v->trial));
 }
 
 /* Tries the addresses; those in front of the first that differs are cut. */

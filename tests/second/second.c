@@ -68,8 +68,13 @@ enum {
     STATUS = CODE_BYTES,
     STATUS_BYTES = 8,
     DATA = STATUS + STATUS_BYTES,
-    DATA_BYTES = 128
+    DATA_BYTES = 128,
+    /* as long as 64 DS1993 make it */
+    MAX_IMAGE_BYTES = TABLE + MAX_DEVICES * (ENTRY_BYTES + MEMORY + 512)
 };
+
+/* The second byte of an entry. */
+enum { GOOD = 0, FLAT = 1 };
 
 /* The E/S register: five bits of ending offset and three flags. */
 enum { OFFSET_MASK = 0x1F, PF = 0x20, OF = 0x40, AA = 0x80 };
@@ -138,9 +143,11 @@ struct device {
 
     /* what the device is */
     uint64_t code;
+    int flat; /* whether its battery is */
     continuation *memory_command;
     uint8_t *body;
     unsigned memory_bytes;
+    uint64_t copied; /* bytes that its copies have written */
 
     /* what the present function works on */
     uint8_t *field;       /* scratchpad, memory, data or status */
@@ -202,9 +209,13 @@ static void select_field(struct device *d, uint8_t *field, unsigned bytes)
 /* ------------------------------------------------------------------ */
 /* Devices: ROM functions                                              */
 
+/* The line feeds the ROM, but memory needs the battery. */
 static void rom_done(struct device *d)
 {
-    device_listen(d, 8, d->memory_command);
+    if (d->flat)
+        wait_for_reset(d);
+    else
+        device_listen(d, 8, d->memory_command);
 }
 
 /*
@@ -311,28 +322,37 @@ static int store_partial_byte(struct device *d)
     return 1;
 }
 
-/* The target address is in: all three registers load at once. */
-static void scratchpad_address(struct device *d)
+/* All 16 bits are in: both target registers take them as they were sent. */
+static unsigned load_target(struct device *d)
 {
-    const uint64_t address = received(d, 16);
+    const unsigned address = (unsigned)received(d, 16);
 
     d->body[TA1] = (uint8_t)address;
     d->body[TA2] = (uint8_t)(address >> 8);
-    d->position = address & OFFSET_MASK;
+    return address;
+}
+
+/* A write takes the ending offset along, and clears the flags. */
+static void scratchpad_address(struct device *d)
+{
+    d->position = load_target(d) & OFFSET_MASK;
     d->body[ES] = (uint8_t)d->position;
     device_listen(d, 8, scratchpad_byte);
 }
 
-static void copy_to_memory(uint8_t *body, unsigned memory_bytes)
+/* Gives how many bytes were written: none, or up to a page of them. */
+static unsigned copy_to_memory(uint8_t *body, unsigned memory_bytes)
 {
     const unsigned target = body[TA1] | (unsigned)body[TA2] << 8;
     const unsigned first = body[TA1] & OFFSET_MASK;
     const unsigned last = body[ES] & OFFSET_MASK;
 
+    if (last < first || target >= memory_bytes)
+        return 0;
     /* The copy stays within a page, and memory is a number of pages. */
-    if (first <= last && target < memory_bytes)
-        memcpy(&body[MEMORY + target], &body[SCRATCHPAD + first],
-               last - first + 1);
+    memcpy(&body[MEMORY + target], &body[SCRATCHPAD + first],
+           last - first + 1);
+    return last - first + 1;
 }
 
 static void copy_pattern(struct device *d)
@@ -342,15 +362,15 @@ static void copy_pattern(struct device *d)
         return;
     }
     d->body[ES] |= AA;
-    copy_to_memory(d->body, d->memory_bytes);
+    d->copied += copy_to_memory(d->body, d->memory_bytes);
     hold_low(d);
 }
 
-/* The read address is the device's own: TA1, TA2 and E/S stay. */
+/* A read leaves E/S as it is, and moves no register while it goes on. */
 static void memory_address(struct device *d)
 {
     select_field(d, d->body + MEMORY, d->memory_bytes);
-    d->position = (unsigned)received(d, 16);
+    d->position = load_target(d);
     send_field(d);
 }
 
@@ -547,13 +567,24 @@ static size_t body_offset(const uint8_t *image, size_t i)
     return entry(image, i)[2] | (size_t)entry(image, i)[3] << 8;
 }
 
+/* Edition 1 knows no flat device; a DS1982 has no battery. */
+static int battery_is_known(const uint8_t *image, size_t i)
+{
+    const uint8_t battery = entry(image, i)[1];
+
+    if (battery == FLAT)
+        return image[EDITION] == 2 && entry(image, i)[0] != DS1982;
+    return battery == GOOD;
+}
+
 static int table_is_sound(const uint8_t *image, size_t image_len)
 {
-    if (image_len < TABLE || image[COUNT] > MAX_DEVICES || image[EDITION] != 1
+    if (image_len < TABLE || image[COUNT] > MAX_DEVICES
+        || (image[EDITION] != 1 && image[EDITION] != 2)
         || image_len < TABLE + (size_t)ENTRY_BYTES * image[COUNT])
         return 0;
     for (size_t i = 0; i < image[COUNT]; i++)
-        if (!kind_of(entry(image, i)[0]) || entry(image, i)[1] != 0)
+        if (!kind_of(entry(image, i)[0]) || !battery_is_known(image, i))
             return 0;
     return 1;
 }
@@ -616,7 +647,7 @@ static int only_ds1982(const uint8_t *image)
     return 1;
 }
 
-/* 0, or the lower of refusals 5 and 6 that applies to an accepted image. */
+/* 0, or the first of refusals 5, 11 and 6 to apply to an accepted image. */
 static uint32_t refuse_trace(const uint8_t *image, const uint8_t *trace,
                              size_t trace_len)
 {
@@ -630,9 +661,24 @@ static uint32_t refuse_trace(const uint8_t *image, const uint8_t *trace,
     }
     if (unknown)
         return 5;
+    if (trace_len > 0 && trace[0] != RESET)
+        return 11;
     if (pulse && !only_ds1982(image))
         return 6;
     return 0;
+}
+
+/* 0, or the first refusal of a run with room for so many answers. */
+static uint32_t refuse_run(const uint8_t *image, size_t image_len,
+                           const uint8_t *trace, size_t trace_len, size_t room)
+{
+    uint32_t refusal = refuse_image(image, image_len);
+
+    if (refusal == 0)
+        refusal = refuse_trace(image, trace, trace_len);
+    if (refusal == 0 && room < trace_len)
+        refusal = 7;
+    return refusal;
 }
 
 /* ------------------------------------------------------------------ */
@@ -656,6 +702,7 @@ static void bus_attach(struct bus *bus, const uint8_t *image)
 
         *d = (struct device){
             .code = load_code(image + body_offset(image, i)),
+            .flat = entry(image, i)[1] == FLAT,
             .memory_command = wait_for_reset
         };
         wait_for_reset(d);
@@ -725,17 +772,24 @@ static uint8_t bus_event(struct bus *bus, enum event event)
     }
 }
 
+/* What all devices have copied since they were attached. */
+static uint64_t bus_copied(const struct bus *bus)
+{
+    uint64_t bytes = 0;
+
+    for (size_t i = 0; i < bus->count; i++)
+        bytes += bus->devices[i].copied;
+    return bytes;
+}
+
 uint32_t second_run(uint8_t *image, size_t image_len,
                     const uint8_t *trace, size_t trace_len,
-                    uint8_t *answers, size_t answers_len)
+                    uint8_t *answers, size_t answers_len, uint64_t *copied)
 {
     struct bus bus;
-    uint32_t refusal = refuse_image(image, image_len);
+    const uint32_t refusal =
+        refuse_run(image, image_len, trace, trace_len, answers_len);
 
-    if (refusal == 0)
-        refusal = refuse_trace(image, trace, trace_len);
-    if (refusal == 0 && answers_len < trace_len)
-        refusal = 7;
     if (refusal != 0)
         return refusal;
 
@@ -745,6 +799,43 @@ uint32_t second_run(uint8_t *image, size_t image_len,
         answers[i] = bus_event(&bus, (enum event)trace[i]);
     for (size_t i = 0; i < bus.count; i++)
         store_partial_byte(&bus.devices[i]);
+    *copied = bus_copied(&bus);
+    return 0;
+}
+
+/* Looks on for as long as the line is high and there is a device left. */
+static uint8_t bus_look(const struct bus *bus, enum event event)
+{
+    uint64_t line = event == WRITE_ONE;
+    size_t looked = 0;
+
+    if (event > WRITE_ONE)
+        return SECOND_NO_SLOT;
+    while (line & 1 && looked < bus->count)
+        line &= bus->devices[looked++].out;
+    return (uint8_t)looked;
+}
+
+/* The devices store into a copy of the image. */
+uint32_t second_looked(const uint8_t *image, size_t image_len,
+                       const uint8_t *trace, size_t trace_len,
+                       uint8_t *looked, size_t looked_len)
+{
+    struct bus bus;
+    uint8_t copy[MAX_IMAGE_BYTES];
+    const uint32_t refusal =
+        refuse_run(image, image_len, trace, trace_len, looked_len);
+
+    if (refusal != 0)
+        return refusal;
+
+    memcpy(copy, image, image_len);
+    bus_attach(&bus, copy);
+    bus_attach_memory(&bus, copy);
+    for (size_t i = 0; i < trace_len; i++) {
+        looked[i] = bus_look(&bus, (enum event)trace[i]);
+        bus_event(&bus, (enum event)trace[i]);
+    }
     return 0;
 }
 

@@ -14,24 +14,46 @@
 /*
  * Runs a trace on the devices of an image.
  *
+ * The second byte of an entry is 0 in edition 1.  In edition 2 it is 1 for a
+ * DS1992 or DS1993 whose battery is flat, else 0.  A flat device carries out
+ * ROM functions, and then waits for a reset where others take a memory command.
+ *
  * A trace has one byte per event: 0 write-zero slot, 1 write-one or read slot,
  * 2 reset, 3 program pulse.  The level of event i goes to answers[i]; answers
  * past trace_len stay as they were.  The image takes up what the devices store.
+ * copied becomes the number of bytes that the copies accepted in this trace
+ * wrote to memory, of all devices together; a program pulse copies nothing.
  *
- * Returns 0 when answered, or the lowest refusal that applies, 1 to 7, with
- * nothing changed:
- *   1  image too short for its table, over 64 devices, edition not 1, a
- *      nonzero second entry byte, or an unknown family
+ * Returns 0 when answered, or the first refusal in this list that applies,
+ * with nothing changed:
+ *   1  image too short for its table, over 64 devices, edition not 1 or 2, a
+ *      second entry byte that the edition does not know, or an unknown family
  *   2  an offset or the image length is not the packed layout's
  *   3  a code with a wrong CRC, or not of its entry's family
  *   4  two equal codes
  *   5  over 32768 events, or an event byte over 3
+ *  11  a trace with events whose first is not a reset
  *   6  a program pulse with a device on the bus that is not a DS1982
  *   7  fewer answers than events
  */
 uint32_t second_run(uint8_t *image, size_t image_len,
                     const uint8_t *trace, size_t trace_len,
-                    uint8_t *answers, size_t answers_len);
+                    uint8_t *answers, size_t answers_len, uint64_t *copied);
+
+/*
+ * How many devices have to be looked at for the level of each slot of a trace:
+ * in the order of the entries up to the first that pulls low, or all where
+ * none does; no device where the master sends 0.  That of event i goes to
+ * looked[i], or SECOND_NO_SLOT where it is none; what is past trace_len stays
+ * as it was.  The image is only read.
+ *
+ * Returns 0, or the refusal of second_run with room for looked_len answers.
+ */
+uint32_t second_looked(const uint8_t *image, size_t image_len,
+                       const uint8_t *trace, size_t trace_len,
+                       uint8_t *looked, size_t looked_len);
+
+enum { SECOND_NO_SLOT = 255 };
 
 /*
  * Searches the n devices of an image: a fresh master is stepped against the

@@ -1,7 +1,9 @@
 /*
- * Self test: document 01's examples, the data sheets' worked example and
- * codes, every refusal alone and together, the master's ends, and searches
- * that are replayed.  Prints what it checks; exits 1 if anything failed.
+ * Self test: the data sheets' worked example and codes, each rule of the
+ * devices on bytes worked out here, every refusal alone and together, the
+ * master's ends, and searches that are replayed.  Document 01's examples are
+ * proved of the library, and comparing it with this program carries them over.
+ * Prints what it checks; exits 1 if anything failed.
  */
 #include "second.h"
 
@@ -111,10 +113,14 @@ enum { TA1 = 8, TA2 = 9, ES = 10, PAD = 11, MEM = 43, STATUS = 8, DATA = 16 };
 /* ------------------------------------------------------------------ */
 /* Scripts: a trace written byte by byte, and its answers              */
 
+/* More bytes than any trace can copy. */
+#define UNWRITTEN UINT64_C(0xEEEEEEEEEEEEEEEE)
+
 struct script {
     size_t length;
     uint8_t trace[EVENTS];
     uint8_t answers[EVENTS + 4];
+    uint64_t copied;
 };
 
 static void event(struct script *s, uint8_t e)
@@ -180,8 +186,21 @@ static void address_one(struct script *s, const uint8_t *code)
 static uint32_t play(struct script *s, struct image *im)
 {
     memset(s->answers, 0xEE, sizeof s->answers);
+    s->copied = UNWRITTEN;
     return second_run(im->bytes, im->length, s->trace, s->length, s->answers,
-                      s->length);
+                      s->length, &s->copied);
+}
+
+/* A run without a script.  A refusal, and only that, leaves the sum alone. */
+static uint32_t run(struct report *r, struct image *im, const uint8_t *trace,
+                    size_t length, uint8_t *answers, size_t room)
+{
+    uint64_t copied = UNWRITTEN;
+    const uint32_t number = second_run(im->bytes, im->length, trace, length,
+                                       answers, room, &copied);
+
+    CHECK(r, (number != 0) == (copied == UNWRITTEN));
+    return number;
 }
 
 /* The byte answered from a place on. */
@@ -233,216 +252,6 @@ static void keep(struct bench *b)
 static int unchanged(const struct bench *b)
 {
     return memcmp(b->image.bytes, b->before.bytes, ROOM) == 0;
-}
-
-/* ------------------------------------------------------------------ */
-/* Document 01's examples                                              */
-
-static void example_1(struct report *r, struct bench *b)
-{
-    static const uint8_t trace[] = { 2, 0, 0, 1, 1, 0, 0, 1, 1 };
-    static const uint8_t levels[] = { 0, 0, 0, 1, 1, 0, 0, 1, 1 };
-    static const uint8_t families[] = { 0x08, 0x06, 0x09 };
-    struct script *const s = &b->script;
-
-    title("example 1: reset and Skip ROM");
-    restart(s);
-    for (size_t i = 0; i < sizeof trace; i++)
-        event(s, trace[i]);
-    for (size_t i = 0; i < 3; i++) {
-        one_device(&b->image, families[i]);
-        CHECK(r, play(s, &b->image) == 0);
-        CHECK(r, memcmp(s->answers, levels, sizeof levels) == 0);
-    }
-    make_image(&b->image, families, 0);
-    CHECK(r, b->image.length == 2);
-    CHECK(r, play(s, &b->image) == 0);
-    CHECK(r, s->answers[0] == 1);
-    CHECK(r, memcmp(s->answers + 1, levels + 1, sizeof levels - 1) == 0);
-}
-
-static void example_2(struct report *r, struct bench *b)
-{
-    static const uint8_t families[] = { 0x09, 0x06, 0x08 };
-
-    title("example 2: the empty trace");
-    for (size_t n = 0; n <= 3; n++) {
-        make_image(&b->image, families, n);
-        keep(b);
-        restart(&b->script);
-        CHECK(r, play(&b->script, &b->image) == 0);
-        CHECK(r, unchanged(b));
-        CHECK(r, b->script.answers[0] == 0xEE);
-        CHECK(r, second_run(b->image.bytes, b->image.length, NULL, 0, NULL, 0)
-                     == 0);
-    }
-}
-
-/* Writes to the scratchpad of the one device, then reads its E/S. */
-static uint8_t es_after(struct bench *b, uint16_t target, uint64_t data,
-                        unsigned count)
-{
-    struct script *const s = &b->script;
-    size_t place;
-
-    one_device(&b->image, 0x08);
-    restart(s);
-    address_all(s);
-    SEND(s, 0x0F, (uint8_t)target, (uint8_t)(target >> 8));
-    bits(s, data, count);
-    address_all(s);
-    SEND(s, 0xAA);
-    place = read_bytes(s, 3);
-    play(s, &b->image);
-    return answered(s, place + 16);
-}
-
-static void examples_3_5_6_7(struct report *r, struct bench *b)
-{
-    uint8_t old[32];
-
-    title("examples 3, 5, 6, 7: the E/S register");
-    CHECK(r, es_after(b, 0x0026, 0xBEEF, 16) == 0x07);
-    CHECK(r, *at(&b->image, 0, ES) == 0x07);
-    CHECK(r, *at(&b->image, 0, TA1) == 0x26 && *at(&b->image, 0, TA2) == 0);
-
-    CHECK(r, es_after(b, 0x003C, 0x5544332211, 40) == 0x5F);
-    CHECK(r, memcmp(at(&b->image, 0, PAD + 28), "\x11\x22\x33\x44", 4) == 0);
-    one_device(&b->before, 0x08);
-    CHECK(r, memcmp(at(&b->image, 0, PAD), at(&b->before, 0, PAD), 28) == 0);
-
-    one_device(&b->image, 0x08);
-    memcpy(old, at(&b->image, 0, PAD), 32);
-    CHECK(r, es_after(b, 0x0026, 0x2A5, 11) == 0x27);
-    CHECK(r, *at(&b->image, 0, PAD + 6) == 0xA5);
-    CHECK(r, *at(&b->image, 0, PAD + 7) == ((old[7] & 0xF8) | 2));
-
-    CHECK(r, es_after(b, 0x0026, 0, 0) == 0x06);
-}
-
-/* Copies with a pattern; gives the place of 16 read slots after it. */
-static size_t copy(struct script *s, uint8_t ta1, uint8_t ta2, uint8_t es)
-{
-    address_all(s);
-    SEND(s, 0x55, ta1, ta2, es);
-    return slots(s, 16);
-}
-
-static void example_4(struct report *r, struct bench *b)
-{
-    struct script *const s = &b->script;
-    size_t place;
-
-    title("example 4: copy, wrong pattern, copy with AA");
-    CHECK(r, es_after(b, 0x0026, 0xBEEF, 16) == 0x07);
-    restart(s);
-    place = copy(s, 0x26, 0x00, 0x07);
-    CHECK(r, play(s, &b->image) == 0);
-    CHECK(r, all_zeros(s, place, 16));
-    CHECK(r, *at(&b->image, 0, ES) == 0x87);
-    CHECK(r, memcmp(at(&b->image, 0, MEM + 0x26), "\xEF\xBE", 2) == 0);
-
-    *at(&b->image, 0, MEM + 0x26) = 0x11;
-    keep(b);
-    restart(s);
-    place = copy(s, 0x26, 0x00, 0x07);
-    CHECK(r, play(s, &b->image) == 0);
-    CHECK(r, all_ones(s, place, 16));
-    CHECK(r, unchanged(b));
-
-    restart(s);
-    place = copy(s, 0x26, 0x00, 0x87);
-    CHECK(r, play(s, &b->image) == 0);
-    CHECK(r, all_zeros(s, place, 16));
-    CHECK(r, *at(&b->image, 0, MEM + 0x26) == 0xEF);
-}
-
-static void example_8(struct report *r, struct bench *b)
-{
-    struct script *const s = &b->script;
-    size_t last, past;
-
-    title("example 8: DS1993 read at 01FFh and 0200h");
-    one_device(&b->image, 0x06);
-    keep(b);
-    restart(s);
-    address_all(s);
-    SEND(s, 0xF0, 0xFF, 0x01);
-    last = read_bytes(s, 4);
-    address_all(s);
-    SEND(s, 0xF0, 0x00, 0x02);
-    past = read_bytes(s, 4);
-    CHECK(r, play(s, &b->image) == 0);
-    CHECK(r, answered(s, last) == *at(&b->image, 0, MEM + 511));
-    CHECK(r, all_ones(s, last + 8, 24));
-    CHECK(r, all_ones(s, past, 32));
-    CHECK(r, unchanged(b));
-}
-
-static void example_9(struct report *r, struct bench *b)
-{
-    static const uint8_t cut[] = { 0x0F, 0x05, 0x00, 0xF0 };
-    struct script *const s = &b->script;
-    size_t crc, verify;
-
-    title("example 9: DS1982 write at 0085h, F0h over 3Ch");
-    one_device(&b->image, 0x09);
-    *at(&b->image, 0, STATUS) = 0xFF;
-    *at(&b->image, 0, DATA + 5) = 0x3C;
-    keep(b);
-    *at(&b->before, 0, DATA + 5) = 0x30;
-    restart(s);
-    address_all(s);
-    SEND(s, 0x0F, 0x85, 0x00, 0xF0);
-    crc = read_bytes(s, 1);
-    event(s, 3);
-    verify = read_bytes(s, 1);
-    CHECK(r, play(s, &b->image) == 0);
-    CHECK(r, answered(s, crc) == crc_bit_by_bit(0, cut, 4));
-    CHECK(r, s->answers[verify - 1] == 1);
-    CHECK(r, answered(s, verify) == 0x30);
-    CHECK(r, unchanged(b));
-}
-
-static void example_10(struct report *r, struct bench *b)
-{
-    struct script *const s = &b->script;
-    size_t kept, programmed;
-
-    title("example 10: page 0 protected, page 1 not");
-    one_device(&b->image, 0x09);
-    *at(&b->image, 0, STATUS) = 0xFE;
-    *at(&b->image, 0, DATA + 31) = 0xFF;
-    *at(&b->image, 0, DATA + 32) = 0xFF;
-    restart(s);
-    address_all(s);
-    SEND(s, 0x0F, 31, 0x00, 0x12);
-    read_bytes(s, 1);
-    event(s, 3);
-    kept = read_bytes(s, 1);
-    SEND(s, 0x34);
-    read_bytes(s, 1);
-    event(s, 3);
-    programmed = read_bytes(s, 1);
-    CHECK(r, play(s, &b->image) == 0);
-    CHECK(r, answered(s, kept) == 0xFF && answered(s, programmed) == 0x34);
-    CHECK(r, *at(&b->image, 0, DATA + 31) == 0xFF);
-    CHECK(r, *at(&b->image, 0, DATA + 32) == 0x34);
-}
-
-static void example_11(struct report *r, struct bench *b)
-{
-    static const uint8_t families[] = { 0x09, 0x06, 0x08 };
-    uint8_t codes[24];
-    uint64_t passes, resets, count;
-
-    title("example 11: one device of each kind, found 08h, 06h, 09h");
-    make_image(&b->image, families, 3);
-    CHECK(r, second_search(b->image.bytes, b->image.length, codes, 24,
-                           b->script.trace, 603, &passes, &resets, &count)
-                 == 0);
-    CHECK(r, codes[0] == 0x08 && codes[8] == 0x06 && codes[16] == 0x09);
-    CHECK(r, passes == 3 && resets == 3 && count == 600);
 }
 
 /* ------------------------------------------------------------------ */
@@ -518,7 +327,8 @@ static void worked_example(struct report *r, struct bench *b, uint8_t family)
     CHECK(r, all_ones(s, all + 8 * size, 20));
     CHECK(r, s->answers[s->length - 1] == 0);
     CHECK(r, memcmp(at(&b->image, 0, MEM), memory, size) == 0);
-    CHECK(r, *at(&b->image, 0, ES) == 0x87);
+    CHECK(r, memcmp(at(&b->image, 0, TA1), "\x00\x00\x87", 3) == 0);
+    CHECK(r, s->copied == 2);
 }
 
 /* ------------------------------------------------------------------ */
@@ -533,14 +343,12 @@ static void rom_functions(struct report *r, struct bench *b)
     title("Read ROM, Match ROM, a mismatch, an unknown command");
     one_device(&b->image, 0x06);
     restart(s);
-    unknown = slots(s, 10);
     event(s, 2);
     SEND(s, 0x33);
     rom = read_bytes(s, 8);
     SEND(s, 0xF0, 0x10, 0x00);
     memory = read_bytes(s, 2);
     CHECK(r, play(s, &b->image) == 0);
-    CHECK(r, all_ones(s, unknown, 10));
     CHECK(r, answered_bytes(s, rom, at(&b->image, 0, 0), 8));
     CHECK(r, answered_bytes(s, memory, at(&b->image, 0, MEM + 0x10), 2));
 
@@ -587,6 +395,94 @@ static void colliding_codes(struct report *r, struct bench *b)
 }
 
 /* ------------------------------------------------------------------ */
+/* How many devices are looked at                                      */
+
+/* What a trace looks at, event by event, with no room to spare. */
+static uint32_t look(struct script *s, const struct image *im)
+{
+    memset(s->answers, 0xEE, sizeof s->answers);
+    return second_looked(im->bytes, im->length, s->trace, s->length,
+                         s->answers, s->length);
+}
+
+static int all_counts(const struct script *s, size_t place, size_t count,
+                      size_t looked)
+{
+    for (size_t i = 0; i < count; i++)
+        if (s->answers[place + i] != looked)
+            return 0;
+    return 1;
+}
+
+/* n DS1992 whose memory is FFh, but for that of some device of them. */
+static void one_of_them_low(struct image *im, size_t n, size_t low)
+{
+    uint8_t families[64];
+
+    memset(families, 0x08, sizeof families);
+    make_image(im, families, n);
+    for (size_t i = 0; i < n; i++)
+        memset(at(im, i, MEM), i == low ? 0x00 : 0xFF, 128);
+}
+
+static void looked_at_in_order(struct report *r, struct bench *b)
+{
+    struct script *const s = &b->script;
+    size_t place;
+
+    title("looked at: up to the first that pulls low, or all of 1 to 64");
+    for (size_t n = 1; n <= 64; n++)
+        for (size_t low = 0; low <= n; low += n < 8 ? 1 : n / 8) {
+            one_of_them_low(&b->image, n, low);
+            if (low + 2 < n)
+                memset(at(&b->image, low + 2, MEM), 0x00, 128);
+            keep(b);
+            restart(s);
+            address_all(s);
+            SEND(s, 0xF0, 0x00, 0x00);
+            place = slots(s, 20);
+            bits(s, 0x0, 3);
+            CHECK(r, look(s, &b->image) == 0);
+            CHECK(r, s->answers[0] == 255);
+            CHECK(r, all_counts(s, place, 20, low < n ? low + 1 : n));
+            CHECK(r, all_counts(s, place + 20, 3, 0));
+            CHECK(r, s->answers[s->length] == 0xEE && unchanged(b));
+        }
+}
+
+static void looked_at_while_waiting(struct report *r, struct bench *b)
+{
+    struct script *const s = &b->script;
+    size_t place;
+
+    title("looked at: devices that wait count, pulses and resets do not");
+    one_of_them_low(&b->image, 5, 3);
+    restart(s);
+    event(s, 2);
+    SEND(s, 0xEC);
+    place = slots(s, 10);
+    address_one(s, at(&b->image, 3, 0));
+    SEND(s, 0xF0, 0x00, 0x00);
+    slots(s, 20);
+    CHECK(r, look(s, &b->image) == 0);
+    CHECK(r, all_counts(s, place, 10, 5));
+    CHECK(r, all_counts(s, s->length - 20, 20, 4));
+
+    make_image(&b->image, (const uint8_t[]){ 0x09, 0x09 }, 2);
+    restart(s);
+    address_all(s);
+    event(s, 3);
+    slots(s, 1);
+    CHECK(r, look(s, &b->image) == 0);
+    CHECK(r, all_counts(s, 9, 1, 255) && all_counts(s, 10, 1, 2));
+    CHECK(r, second_looked(b->image.bytes, b->image.length, s->trace,
+                           s->length, s->answers, s->length - 1) == 7);
+    make_image(&b->image, NULL, 0);
+    CHECK(r, look(s, &b->image) == 0);
+    CHECK(r, all_counts(s, 10, 1, 0));
+}
+
+/* ------------------------------------------------------------------ */
 /* DS1992 and DS1993                                                   */
 
 /* Every number of data bits: what is stored, E/S with and without a reset. */
@@ -629,23 +525,107 @@ static void scratchpad_bits(struct report *r, struct bench *b)
     }
 }
 
-/* Nothing changes before the 16th address bit. */
+/* Nothing changes before the 16th address bit of a write or a read. */
 static void address_cut_short(struct report *r, struct bench *b)
 {
+    static const uint8_t commands[] = { 0x0F, 0xF0 };
     struct script *const s = &b->script;
 
-    title("scratchpad: nothing loads before the 16th address bit");
-    for (unsigned count = 0; count < 16; count++) {
+    title("0Fh and F0h: nothing loads before the 16th address bit");
+    for (unsigned i = 0; i < 2 * 16; i++) {
         one_device(&b->image, 0x08);
         keep(b);
         restart(s);
         address_all(s);
-        SEND(s, 0x0F);
-        bits(s, 0x5555, count);
+        SEND(s, commands[i / 16]);
+        bits(s, 0x5555, i % 16);
         event(s, 2);
         CHECK(r, play(s, &b->image) == 0);
         CHECK(r, unchanged(b));
     }
+}
+
+/* Reads some bytes from an address: what comes, and what it leaves. */
+static void read_memory_at(struct report *r, struct bench *b, uint8_t family,
+                           uint16_t address)
+{
+    enum { READ = 5 };
+    const size_t size = family == 0x08 ? 128 : 512;
+    struct script *const s = &b->script;
+    uint8_t bytes[READ];
+    size_t place;
+
+    one_device(&b->image, family);
+    for (size_t i = 0; i < READ; i++)
+        bytes[i] = address + i < size ? *at(&b->image, 0, MEM + address + i)
+                                      : 0xFF;
+    keep(b);
+    *at(&b->before, 0, TA1) = (uint8_t)address;
+    *at(&b->before, 0, TA2) = (uint8_t)(address >> 8);
+    restart(s);
+    address_all(s);
+    SEND(s, 0xF0, (uint8_t)address, (uint8_t)(address >> 8));
+    place = read_bytes(s, READ);
+    CHECK(r, play(s, &b->image) == 0);
+    CHECK(r, answered_bytes(s, place, bytes, READ));
+    CHECK(r, unchanged(b));
+    s->length = place;
+    one_device(&b->image, family);
+    CHECK(r, play(s, &b->image) == 0);
+    CHECK(r, unchanged(b));
+}
+
+static void read_memory(struct report *r, struct bench *b)
+{
+    title("read memory: the target is the address as sent, E/S stays");
+    for (unsigned address = 0; address < 520; address++) {
+        read_memory_at(r, b, 0x08, (uint16_t)address);
+        read_memory_at(r, b, 0x06, (uint16_t)address);
+    }
+    read_memory_at(r, b, 0x08, 0x8000);
+    read_memory_at(r, b, 0x06, 0xFFFF);
+}
+
+/* Copies with a pattern; gives the place of 16 read slots after it. */
+static size_t copy(struct script *s, uint8_t ta1, uint8_t ta2, uint8_t es)
+{
+    address_all(s);
+    SEND(s, 0x55, ta1, ta2, es);
+    return slots(s, 16);
+}
+
+/*
+ * Two bytes at 0026h, and a read of 0048h: the old pattern does not match any
+ * more, the scratchpad is read from offset 8 on, and a copy has nothing to do.
+ */
+static void copy_after_a_read(struct report *r, struct bench *b)
+{
+    static const uint8_t moved[] = { 0x48, 0x00, 0x07 };
+    struct script *const s = &b->script;
+    size_t back, old, new;
+
+    title("read memory: the old pattern stops matching, the new copies none");
+    one_device(&b->image, 0x06);
+    keep(b);
+    restart(s);
+    address_all(s);
+    SEND(s, 0x0F, 0x26, 0x00, 0xC3, 0x5A);
+    address_all(s);
+    SEND(s, 0xF0, 0x48, 0x00);
+    read_bytes(s, 3);
+    address_all(s);
+    SEND(s, 0xAA);
+    back = read_bytes(s, 4);
+    old = copy(s, 0x26, 0x00, 0x07);
+    new = copy(s, 0x48, 0x00, 0x07);
+    CHECK(r, play(s, &b->image) == 0);
+    CHECK(r, answered_bytes(s, back, moved, 3));
+    CHECK(r, answered(s, back + 24) == *at(&b->before, 0, PAD + 8));
+    CHECK(r, all_ones(s, old, 16) && all_zeros(s, new, 16));
+    CHECK(r, s->copied == 0);
+    memcpy(at(&b->before, 0, TA1), "\x48\x00\x87", 3);
+    memcpy(at(&b->before, 0, PAD + 6), "\xC3\x5A", 2);
+    CHECK(r, unchanged(b));
 }
 
 static void read_scratchpad(struct report *r, struct bench *b)
@@ -694,6 +674,7 @@ static void copy_from(struct report *r, struct bench *b, uint8_t family,
     event(s, 2);
     CHECK(r, play(s, &b->image) == 0);
     CHECK(r, all_zeros(s, place, 116));
+    CHECK(r, s->copied == written);
     CHECK(r, unchanged(b));
 }
 
@@ -710,6 +691,149 @@ static void copies(struct report *r, struct bench *b)
     copy_from(r, b, 0x08, 0x0080, 0x1F, 0);
     copy_from(r, b, 0x06, 0x0200, 0x1F, 0);
     copy_from(r, b, 0x06, 0xFFE0, 0x1F, 0);
+}
+
+/* A pattern is compared whole, flags as well: any wrong bit spoils it. */
+static void wrong_patterns(struct report *r, struct bench *b)
+{
+    static const uint8_t registers[] = { 0x26, 0x00, 0xE7 };
+    struct script *const s = &b->script;
+    uint8_t pattern[3];
+    size_t place;
+
+    title("copy: a pattern wrong in one bit gives ones and copies nothing");
+    for (unsigned bit = 0; bit < 24; bit++) {
+        memcpy(pattern, registers, 3);
+        pattern[bit / 8] ^= (uint8_t)(1u << (bit % 8));
+        one_device(&b->image, 0x06);
+        memcpy(at(&b->image, 0, TA1), registers, 3);
+        keep(b);
+        restart(s);
+        place = copy(s, pattern[0], pattern[1], pattern[2]);
+        CHECK(r, play(s, &b->image) == 0);
+        CHECK(r, all_ones(s, place, 16));
+        CHECK(r, s->copied == 0);
+        CHECK(r, unchanged(b));
+    }
+}
+
+/*
+ * A DS1992 and a DS1993 under Skip ROM: first both have the target, then it is
+ * past the end of the DS1992, then it lies behind the ending offset.
+ */
+static void copies_add_up(struct report *r, struct bench *b)
+{
+    struct script *const s = &b->script;
+
+    title("copy: the bytes of all devices and of the whole trace add up");
+    make_image(&b->image, (const uint8_t[]){ 0x08, 0x06 }, 2);
+    restart(s);
+    CHECK(r, play(s, &b->image) == 0 && s->copied == 0);
+    address_all(s);
+    SEND(s, 0x0F, 0x45, 0x00, 1, 2, 3);
+    copy(s, 0x45, 0x00, 0x07);
+    CHECK(r, play(s, &b->image) == 0 && s->copied == 2 * 3);
+    copy(s, 0x45, 0x00, 0x07);
+    CHECK(r, play(s, &b->image) == 0 && s->copied == 2 * 3);
+    copy(s, 0x45, 0x00, 0x87);
+    CHECK(r, play(s, &b->image) == 0 && s->copied == 4 * 3);
+    address_all(s);
+    SEND(s, 0x0F, 0x81, 0x00, 1, 2, 3, 4, 5);
+    copy(s, 0x81, 0x00, 0x05);
+    CHECK(r, play(s, &b->image) == 0 && s->copied == 4 * 3 + 5);
+    address_all(s);
+    SEND(s, 0xF0, 0x1E, 0x00);
+    copy(s, 0x1E, 0x00, 0x85);
+    CHECK(r, play(s, &b->image) == 0 && s->copied == 4 * 3 + 5);
+    address_one(s, at(&b->image, 1, 0));
+    SEND(s, 0xF0, 0xE0, 0x01);
+    copy(s, 0xE0, 0x01, 0x85);
+    CHECK(r, play(s, &b->image) == 0 && s->copied == 4 * 3 + 5 + 6);
+}
+
+/* Device i's battery goes flat, which only edition 2 can say. */
+static void flatten(struct image *im, size_t i)
+{
+    im->bytes[1] = 2;
+    im->bytes[3 + 4 * i] = 1;
+}
+
+/* The ways to come to the memory command: all devices, or that of a code. */
+static void address_by(struct script *s, unsigned way, const uint8_t *code)
+{
+    event(s, 2);
+    switch (way) {
+    case 0:
+        SEND(s, 0xCC);
+        break;
+    case 1:
+        SEND(s, 0x55);
+        send(s, code, CODE);
+        break;
+    case 2:
+        SEND(s, 0x33);
+        read_bytes(s, CODE);
+        break;
+    default:
+        SEND(s, 0xF0);
+        for (unsigned i = 0; i < 64; i++) {
+            slots(s, 2);
+            bits(s, code[i / 8] >> i % 8, 1);
+        }
+    }
+}
+
+/* Every ROM function is carried out, and no memory command after it. */
+static void flat_alone(struct report *r, struct bench *b, uint8_t family)
+{
+    struct script *const s = &b->script;
+    const uint8_t *code;
+    size_t place;
+
+    printf("flat: ROM functions, and no memory command, family %02Xh\n",
+           family);
+    one_device(&b->image, family);
+    memcpy(at(&b->image, 0, TA1), "\x26\x00\x07", 3);
+    flatten(&b->image, 0);
+    keep(b);
+    code = at(&b->image, 0, 0);
+    for (unsigned way = 0; way < 4; way++)
+        for (unsigned command = 0; command < 256; command++) {
+            restart(s);
+            address_by(s, way, code);
+            SEND(s, (uint8_t)command);
+            place = SEND(s, 0x26, 0x00, 0x07);
+            slots(s, 100);
+            event(s, 2);
+            CHECK(r, play(s, &b->image) == 0 && s->copied == 0);
+            CHECK(r, way != 2 || answered_bytes(s, 9, code, CODE));
+            CHECK(r, answered(s, place) == 0x26);
+            CHECK(r, answered(s, place + 16) == 0x07);
+            CHECK(r, all_ones(s, place + 24, 100));
+            CHECK(r, s->answers[s->length - 1] == 0 && unchanged(b));
+        }
+}
+
+/* One flat beside one good: only the good one takes the write and the copy. */
+static void flat_beside_good(struct report *r, struct bench *b)
+{
+    struct script *const s = &b->script;
+
+    title("flat: the good neighbour takes what both are sent");
+    for (size_t flat = 0; flat < 2; flat++) {
+        make_image(&b->image, (const uint8_t[]){ 0x06, 0x08 }, 2);
+        flatten(&b->image, flat);
+        keep(b);
+        restart(s);
+        address_all(s);
+        SEND(s, 0x0F, 0x41, 0x00, 0xC3, 0x5A);
+        copy(s, 0x41, 0x00, 0x02);
+        CHECK(r, play(s, &b->image) == 0 && s->copied == 2);
+        memcpy(at(&b->before, 1 - flat, TA1), "\x41\x00\x82", 3);
+        memcpy(at(&b->before, 1 - flat, PAD + 1), "\xC3\x5A", 2);
+        memcpy(at(&b->before, 1 - flat, MEM + 0x41), "\xC3\x5A", 2);
+        CHECK(r, unchanged(b));
+    }
 }
 
 /* A device that listens takes the level of the line. */
@@ -830,6 +954,7 @@ static void eprom_write(struct report *r, struct bench *b, uint8_t command,
         CHECK(r, answered(s, place[i] + 9) == field[a + i]);
     }
     CHECK(r, all_ones(s, after, 16 + 1 + 70));
+    CHECK(r, s->copied == 0);
     CHECK(r, unchanged(b));
 }
 
@@ -855,7 +980,6 @@ static void eprom_pulses(struct report *r, struct bench *b)
     *at(&b->image, 0, DATA) = 0xFF;
     keep(b);
     restart(s);
-    event(s, 3);
     address_all(s);
     SEND(s, 0x0F, 0x00, 0x00, 0x00);
     read_bytes(s, 1);
@@ -984,8 +1108,7 @@ static void both_refuse(struct report *r, struct bench *b, uint32_t number)
     memset(codes, 9, sizeof codes);
     memset(sent, 9, sizeof sent);
     keep(b);
-    CHECK(r, second_run(b->image.bytes, b->image.length, trace, 2, answers, 2)
-                 == number);
+    CHECK(r, run(r, &b->image, trace, 2, answers, 2) == number);
     CHECK(r, second_search(b->image.bytes, b->image.length, codes,
                            sizeof codes, sent, sizeof sent, &passes, &resets,
                            &count)
@@ -1001,17 +1124,20 @@ static const uint8_t four[] = { 0x08, 0x06, 0x09, 0x09 };
 
 static void refusal_1(struct report *r, struct bench *b)
 {
+    uint64_t copied = UNWRITTEN;
+
     title("refusal 1: the table");
     for (size_t length = 0; length < 18; length++) {
         make_image(&b->image, four, 4);
         b->image.length = length;
         both_refuse(r, b, 1);
     }
-    CHECK(r, second_run(NULL, 0, NULL, 0, NULL, 0) == 1);
+    CHECK(r, second_run(NULL, 0, NULL, 0, NULL, 0, &copied) == 1);
+    CHECK(r, copied == UNWRITTEN);
     for (unsigned edition = 0; edition < 256; edition++) {
         make_image(&b->image, four, 4);
         b->image.bytes[1] = (uint8_t)edition;
-        both_refuse(r, b, edition != 1);
+        both_refuse(r, b, edition != 1 && edition != 2);
     }
     for (unsigned family = 0; family < 256; family++)
         if (family != 0x08 && family != 0x06 && family != 0x09) {
@@ -1019,17 +1145,29 @@ static void refusal_1(struct report *r, struct bench *b)
             b->image.bytes[2 + 4 * 3] = (uint8_t)family;
             both_refuse(r, b, 1);
         }
-    for (size_t i = 0; i < 4; i++) {
-        make_image(&b->image, four, 4);
-        b->image.bytes[3 + 4 * i] = 0x80;
-        both_refuse(r, b, 1);
-    }
     for (unsigned n = 65; n < 256; n++) {
         make_image(&b->image, four, 4);
         b->image.bytes[0] = (uint8_t)n;
         b->image.length = ROOM;
         both_refuse(r, b, 1);
     }
+}
+
+/* The second byte of each entry, in editions that are and are not known. */
+static void refusal_1_of_batteries(struct report *r, struct bench *b)
+{
+    title("refusal 1: the second entry byte in editions 0 to 3");
+    for (unsigned battery = 0; battery < 256; battery++)
+        for (unsigned edition = 0; edition < 4; edition++)
+            for (size_t i = 0; i < 4; i++) {
+                const int good = edition >= 1 && edition <= 2 && battery == 0;
+                const int flat = edition == 2 && battery == 1;
+
+                make_image(&b->image, four, 4);
+                b->image.bytes[1] = (uint8_t)edition;
+                b->image.bytes[3 + 4 * i] = (uint8_t)battery;
+                both_refuse(r, b, !good && !(flat && four[i] != 0x09));
+            }
 }
 
 static void refusals_2_3_4(struct report *r, struct bench *b)
@@ -1075,23 +1213,19 @@ static void refusals_5_6_7(struct report *r, struct bench *b)
     title("refusals 5, 6, 7: the trace, pulses, room");
     make_image(&b->image, four, 4);
     keep(b);
+    trace[0] = 2;
     memset(answers, 9, sizeof answers);
-    CHECK(r, second_run(bytes, b->image.length, trace, EVENTS + 1, answers,
-                        EVENTS + 1) == 5);
+    CHECK(r, run(r, &b->image, trace, EVENTS + 1, answers, EVENTS + 1) == 5);
     for (unsigned e = 4; e < 256; e++) {
         trace[EVENTS - 1] = (uint8_t)e;
-        CHECK(r, second_run(bytes, b->image.length, trace, EVENTS, answers,
-                            EVENTS) == 5);
+        CHECK(r, run(r, &b->image, trace, EVENTS, answers, EVENTS) == 5);
     }
     trace[EVENTS - 1] = 3;
-    CHECK(r, second_run(bytes, b->image.length, trace, EVENTS, answers, EVENTS)
-                 == 6);
+    CHECK(r, run(r, &b->image, trace, EVENTS, answers, EVENTS) == 6);
     trace[EVENTS - 1] = 2;
-    CHECK(r, second_run(bytes, b->image.length, trace, EVENTS, answers,
-                        EVENTS - 1) == 7);
+    CHECK(r, run(r, &b->image, trace, EVENTS, answers, EVENTS - 1) == 7);
     CHECK(r, unchanged(b) && answers[0] == 9);
-    CHECK(r, second_run(bytes, b->image.length, trace, EVENTS, answers, EVENTS)
-                 == 0);
+    CHECK(r, run(r, &b->image, trace, EVENTS, answers, EVENTS) == 0);
     CHECK(r, unchanged(b) && answers[EVENTS - 1] == 0
                  && answers[EVENTS] == 9);
     CHECK(r, second_search(bytes, b->image.length, codes, 31, sent, 804, &a,
@@ -1103,9 +1237,32 @@ static void refusals_5_6_7(struct report *r, struct bench *b)
                            &c, &d) == 0);
     make_image(&b->image, four, 0);
     CHECK(r, second_search(bytes, 2, NULL, 0, NULL, 0, &a, &c, &d) == 7);
-    trace[0] = 3;
-    CHECK(r, second_run(bytes, 2, trace, 1, answers, 1) == 0);
-    CHECK(r, answers[0] == 1);
+    trace[1] = 3;
+    CHECK(r, run(r, &b->image, trace, 2, answers, 2) == 0);
+    CHECK(r, answers[0] == 1 && answers[1] == 1);
+}
+
+/* A capture that begins within a transaction; no capture at all is none. */
+static void refusal_11(struct report *r, struct bench *b)
+{
+    uint8_t trace[] = { 2, 0, 2, 1 }, answers[4];
+
+    title("refusal 11: the first event is no reset");
+    for (unsigned first = 0; first <= 3; first++)
+        for (size_t length = 0; length <= 4; length++)
+            for (size_t n = 0; n <= 4; n += 4) {
+                make_image(&b->image, four, n);
+                keep(b);
+                memset(answers, 9, 4);
+                trace[0] = (uint8_t)first;
+                CHECK(r, run(r, &b->image, trace, length, answers, 4)
+                             == (length > 0 && first != 2 ? 11 : 0));
+                CHECK(r, (first == 2 && length > 0) == (answers[0] != 9));
+                CHECK(r, unchanged(b));
+            }
+    make_image(&b->image, four, 4);
+    CHECK(r, second_looked(b->image.bytes, b->image.length, trace, 4, answers,
+                           4) == 11);
 }
 
 /* Puts causes into an image; bit k of causes is refusal k + 1. */
@@ -1122,11 +1279,14 @@ static void put_causes(struct image *im, unsigned causes)
         memcpy(at(im, 3, 0), at(im, 2, 0), CODE);
 }
 
-static uint32_t lowest(unsigned causes)
+/* The first of the refusals that has its cause; bit 7 is that of 11. */
+static uint32_t first_of(unsigned causes)
 {
-    for (uint32_t k = 1; k <= 7; k++)
-        if (causes >> (k - 1) & 1)
-            return k;
+    static const uint8_t order[] = { 1, 2, 3, 4, 5, 11, 6, 7 };
+
+    for (size_t i = 0; i < sizeof order; i++)
+        if (causes >> (order[i] == 11 ? 7 : order[i] - 1) & 1)
+            return order[i];
     return 0;
 }
 
@@ -1135,25 +1295,29 @@ static void refusals_together(struct report *r, struct bench *b)
     uint8_t trace[4], answers[4], codes[32], sent[804];
     uint64_t a, c, d;
 
-    title("every set of causes 1 to 7 together: the lowest wins");
-    for (unsigned causes = 0; causes < 128; causes++) {
+    title("every set of causes 1 to 7 together, with 11 between 5 and 6");
+    for (unsigned causes = 0; causes < 256; causes++) {
+        const unsigned of_search = causes & (15 | 64);
+
         memcpy(trace, "\2\0\1\1", 4);
         memset(answers, 9, 4);
         if (causes & 16)
             trace[3] = 4;
         if (causes & 32)
             trace[1] = 3;
+        if (causes & 128)
+            trace[0] = causes & 32 ? 3 : 1;
         put_causes(&b->image, causes);
         keep(b);
-        CHECK(r, second_run(b->image.bytes, b->image.length, trace, 4, answers,
-                            causes & 64 ? 3 : 4) == lowest(causes));
+        CHECK(r, run(r, &b->image, trace, 4, answers, causes & 64 ? 3 : 4)
+                     == first_of(causes));
         CHECK(r, (causes != 0) == (memcmp(answers, "\11\11\11\11", 4) == 0));
         CHECK(r, unchanged(b));
         sent[0] = 9;
         CHECK(r, second_search(b->image.bytes, b->image.length, codes,
                                causes & 64 ? 31 : 32, sent, 804, &a, &c, &d)
-                     == lowest(causes & ~(16u | 32u)));
-        CHECK(r, (sent[0] == 9) == ((causes & ~(16u | 32u)) != 0));
+                     == first_of(of_search));
+        CHECK(r, (sent[0] == 9) == (of_search != 0));
     }
 }
 
@@ -1207,9 +1371,11 @@ static size_t pass_levels(uint8_t (*codes)[CODE], size_t n, size_t k,
 
 static void many_codes(uint8_t (*codes)[CODE], size_t n, uint64_t seed)
 {
+    static const uint8_t families[] = { 0x08, 0x06, 0x09 };
+
     for (size_t i = 0; i < n; i++) {
         seed = seed * 6364136223846793005u + 1442695040888963407u;
-        make_code(codes[i], "\x08\x06\x09"[i % 3], seed >> 16);
+        make_code(codes[i], families[i % 3], seed >> 16);
     }
     qsort(codes, n, CODE, by_bit_order);
 }
@@ -1321,7 +1487,8 @@ static void image_of(struct image *im, uint8_t (*codes)[CODE], size_t n)
 
 /* Searches n devices, runs the trace sent, feeds the answers to a master. */
 static void search_and_replay(struct report *r, struct bench *b,
-                              struct feed_buffers *f, size_t n, uint64_t seed)
+                              struct feed_buffers *f, size_t n, uint64_t seed,
+                              int flat)
 {
     static uint8_t codes[64][CODE], found[513], expected[12864];
     struct script *const s = &b->script;
@@ -1329,9 +1496,13 @@ static void search_and_replay(struct report *r, struct bench *b,
     uint64_t passes, resets, count;
     struct second_fed fed;
 
-    printf("search and replay: devices %u\n", (unsigned)n);
+    printf("search and replay: devices %u%s\n", (unsigned)n,
+           flat ? ", some of them flat" : "");
     many_codes(codes, n, seed);
     image_of(&b->image, codes, n);
+    for (size_t i = 0; flat && i < n; i++)
+        if (i % 3 != 0 && at(&b->image, i, 0)[0] != 0x09)
+            flatten(&b->image, i);
     keep(b);
     memset(found, 9, sizeof found);
     memset(s->trace, 9, sizeof s->trace);
@@ -1363,16 +1534,8 @@ static void search_and_replay(struct report *r, struct bench *b,
 
 /* ------------------------------------------------------------------ */
 
-static void examples(struct report *r, struct bench *b)
+static void published(struct report *r, struct bench *b)
 {
-    example_1(r, b);
-    example_2(r, b);
-    examples_3_5_6_7(r, b);
-    example_4(r, b);
-    example_8(r, b);
-    example_9(r, b);
-    example_10(r, b);
-    example_11(r, b);
     published_codes(r);
     worked_example(r, b, 0x08);
     worked_example(r, b, 0x06);
@@ -1382,10 +1545,19 @@ static void devices(struct report *r, struct bench *b)
 {
     rom_functions(r, b);
     colliding_codes(r, b);
+    looked_at_in_order(r, b);
+    looked_at_while_waiting(r, b);
     scratchpad_bits(r, b);
     address_cut_short(r, b);
+    read_memory(r, b);
+    copy_after_a_read(r, b);
     read_scratchpad(r, b);
     copies(r, b);
+    wrong_patterns(r, b);
+    copies_add_up(r, b);
+    flat_alone(r, b, 0x08);
+    flat_alone(r, b, 0x06);
+    flat_beside_good(r, b);
     listening(r, b);
     eprom_reads(r, b);
     eprom_writes(r, b);
@@ -1401,19 +1573,22 @@ int main(void)
     static struct feed_buffers buffers;
     struct report report = { 0, 0 };
 
-    examples(&report, &bench);
+    published(&report, &bench);
     devices(&report, &bench);
     refusal_1(&report, &bench);
+    refusal_1_of_batteries(&report, &bench);
     refusals_2_3_4(&report, &bench);
     refusals_5_6_7(&report, &bench);
+    refusal_11(&report, &bench);
     refusals_together(&report, &bench);
     master_end_none_and_8(&report, &buffers);
     master_end_9(&report, &buffers);
     master_end_10(&report, &buffers);
-    search_and_replay(&report, &bench, &buffers, 0, 1);
-    search_and_replay(&report, &bench, &buffers, 1, 2);
-    search_and_replay(&report, &bench, &buffers, 40, 3);
-    search_and_replay(&report, &bench, &buffers, 64, 4);
+    search_and_replay(&report, &bench, &buffers, 0, 1, 0);
+    search_and_replay(&report, &bench, &buffers, 1, 2, 0);
+    search_and_replay(&report, &bench, &buffers, 40, 3, 0);
+    search_and_replay(&report, &bench, &buffers, 64, 4, 0);
+    search_and_replay(&report, &bench, &buffers, 64, 5, 1);
     printf("%u checks, %u failed\n", report.checks, report.failures);
     return report.failures != 0;
 }

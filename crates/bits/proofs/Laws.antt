@@ -1,16 +1,16 @@
 -- Laws of bits and of the CRC that proofs cite. Assumes nothing.
-use Prim.Native.Nat.{ℕ, zero, suc, _+_, _-_, _*_, _/_, _%_, _^_, _<_, _≤_}
+use Prim.Native.Nat.{ℕ, zero, suc, _+_, _*_, _/_, _%_, _^_, _<_, _≤_}
 use mathlib.Core.Path.{_≡_, refl, _∙_}
 use mathlib.Core.Bool.{Bool, true, false, cond, Bool·beq}
 use mathlib.Core.List.{List, [], _∷_, _++_}
 use native.Mathlib.Omega.{arith}
-use native.Mathlib.Nat.{not-suc-le-zero, div-eq-of-lt}
-use native.Mathlib.Numerals.{sub-one, add-one}
+use native.Mathlib.Nat.{div-eq-of-lt}
+use native.Mathlib.Numerals.{add-one}
 use lib.ListN.{length, length-append}
 use lib.Bits.{bitXor, xor-lt}
 use lib.Pow.{pow-mono, shr-lt}
 use Rattle.bits.specs.Bit.{bitOf}
-use Rattle.bits.specs.Crc.{crcBit, crcBits, crcByte, crcFrom, crcOf, registered}
+use Rattle.bits.specs.Crc.{crcBit, crcBits, crcByte, crcFrom, crcOf, registrationCheck}
 
 -- ---- bits
 
@@ -54,13 +54,6 @@ no-bit width b i h k =
 
 -- ---- the CRC
 
--- one shift of the register takes one of those that are left
-pub crc-next : (n register byte : ℕ) → 0 < n
-    → crcBits (n - 1) (crcBit register (bitOf byte 0)) (byte / 2) ≡ crcBits n register byte
-unfolding crcBits
-crc-next zero register byte h = absurd (not-suc-le-zero h)
-crc-next (suc n) register byte h = rw sub-one
-
 -- bytes after bytes
 pub crc-append : (register : ℕ) (xs ys : List ℕ) → crcFrom register (xs ++ ys) ≡ crcFrom (crcFrom register xs) ys
 unfolding crcFrom
@@ -68,7 +61,7 @@ crc-append register [] ys = refl
 crc-append register (x ∷ xs) ys = crc-append (crcByte register x) xs ys
 
 -- the register stays a byte
-crc-bit-fits : (register : ℕ) (level : Bool) → register < 256 → crcBit register level < 256
+pub crc-bit-fits : (register : ℕ) (level : Bool) → register < 256 → crcBit register level < 256
 unfolding crcBit
 crc-bit-fits register level h = choose (Bool·beq (bitOf register 0) level)
   where
@@ -82,10 +75,14 @@ crc-bits-fit zero register byte h = h
 crc-bits-fit (suc n) register byte h =
     crc-bits-fit n (crcBit register (bitOf byte 0)) (byte / 2) (crc-bit-fits register (bitOf byte 0) h)
 
+pub crc-byte-fits : (register byte : ℕ) → register < 256 → crcByte register byte < 256
+unfolding crcByte
+crc-byte-fits register byte h = crc-bits-fit 8 register byte h
+
 pub crc-fits : (register : ℕ) (s : List ℕ) → register < 256 → crcFrom register s < 256
-unfolding crcFrom crcByte
+unfolding crcFrom
 crc-fits register [] h = h
-crc-fits register (x ∷ xs) h = crc-fits (crcByte register x) xs (crc-bits-fit 8 register x h)
+crc-fits register (x ∷ xs) h = crc-fits (crcByte register x) xs (crc-byte-fits register x h)
 
 -- a register that takes in its own lowest bit is only shifted, so that it takes in its own eight bits and is zero
 pub own-bit : (register : ℕ) → crcBit register (bitOf register 0) ≡ register / 2
@@ -111,8 +108,8 @@ unfolding crcFrom
 crc-closes s = crc-append 0 s (crcOf s ∷ []) ∙ own-byte (crcOf s) (crc-fits 0 s (omega arith))
 
 -- so seven bytes and their CRC are a registration code
-pub crc-registers : (s : List ℕ) → length s ≡ 7 → registered (s ++ crcOf s ∷ []) ≡ true
-unfolding registered
+pub crc-registers : (s : List ℕ) → length s ≡ 7 → registrationCheck (s ++ crcOf s ∷ []) ≡ true
+unfolding registrationCheck
 crc-registers s h =
     let eight : length (s ++ crcOf s ∷ []) ≡ 8 = simp length-append (omega arith) in
     rw (eight, crc-closes s)

@@ -1,5 +1,5 @@
--- Document 01, 'Registration code and CRC': X8 + X5 + X4 + 1, register zero at the start, bits shifted in least
--- significant first.
+-- Document 01, 'Registration code and CRC', is stated here: the polynomial is X8 + X5 + X4 + 1, the register is zero at
+-- the start, and bits are shifted in least significant first.
 use Prim.Native.Nat.{ℕ, zero, suc, _/_}
 use mathlib.Core.Bool.{Bool, cond, _&&_, Bool·beq}
 use mathlib.Core.List.{List, [], _∷_}
@@ -8,13 +8,13 @@ use lib.Bits.{bitXor}
 use lib.Dec.{eqb}
 use Rattle.bits.specs.Bit.{bitOf}
 
--- One shift of the generator. The bit that leaves the register and the bit that comes in are added modulo 2. The sum
--- goes into the first stage and is added behind the fourth and the fifth: the terms 1, X4 and X5. The last stage is
--- bit 0, so these are bits 7, 3, 2: 8Ch.
+-- This is one shift of the generator. The bit that leaves the register and the bit that comes in are added modulo 2.
+-- The sum goes into the first stage and is added behind the fourth and the fifth: the terms 1, X4 and X5. The last
+-- stage is bit 0, so these are bits 7, 3 and 2, which make 8Ch.
 unfoldable pub crcBit : ℕ → Bool → ℕ
 crcBit register level = cond (Bool·beq (bitOf register 0) level) (register / 2) (bitXor (register / 2) 0x8C)
 
--- the n low bits of a byte shifted in, the lowest first
+-- The n low bits of a byte are shifted in, the lowest first.
 unfoldable pub crcBits : ℕ → ℕ → ℕ → ℕ
 crcBits zero register byte = register
 crcBits (suc n) register byte = crcBits n (crcBit register (bitOf byte 0)) (byte / 2)
@@ -22,15 +22,24 @@ crcBits (suc n) register byte = crcBits n (crcBit register (bitOf byte 0)) (byte
 unfoldable pub crcByte : ℕ → ℕ → ℕ
 crcByte register byte = crcBits 8 register byte
 
--- bytes shifted in, from any register
+-- Document 02, item 8, has a table whose entry v is register v after eight shifts of zero bits. These are n entries
+-- from entry v on, and all 256 of them.
+unfoldable pub entriesFrom : ℕ → ℕ → List ℕ
+entriesFrom v zero = []
+entriesFrom v (suc n) = crcByte v 0 ∷ entriesFrom (suc v) n
+
+unfoldable pub crcTable : List ℕ
+crcTable = entriesFrom 0 256
+
+-- Bytes are shifted in one after another, from any register.
 unfoldable pub crcFrom : ℕ → List ℕ → ℕ
 crcFrom register [] = register
 crcFrom register (byte ∷ bytes) = crcFrom (crcByte register byte) bytes
 
--- the CRC of bytes: the register is zero at the start
+-- The CRC of bytes begins with a register of zero.
 abbrev pub crcOf : List ℕ → ℕ
 crcOf s = crcFrom 0 s
 
--- the registration check: yes exactly for 8 bytes that give zero
-unfoldable pub registered : List ℕ → Bool
-registered code = eqb (length code) 8 && eqb (crcOf code) 0
+-- The registration check passes exactly for 8 bytes whose CRC is zero.
+unfoldable pub registrationCheck : List ℕ → Bool
+registrationCheck code = eqb (length code) 8 && eqb (crcOf code) 0

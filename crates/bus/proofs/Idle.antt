@@ -11,15 +11,17 @@ use lib.Dec.{ltb}
 use borrow.Author.Tests.{ltb-true, le-ltb, ne-eqb}
 use Rattle.line.specs.Transfers.{goesOn, shifted}
 use Rattle.device.specs.declared.LineState.{LineState}
-use Rattle.device.specs.Device.{lineState, waitingState, resetState, waits, resetAsIs, pulseAsIs, programAsIs}
+use Rattle.device.specs.Device.{lineState, waitingState, resetState, waits, bodyAfterResetAsIs, stateAfterPulseAsIs, bodyAfterPulseAsIs}
 use Rattle.device.proofs.Range.{waits-waiting}
-use Rattle.device.proofs.Laws.{waiting-step, waiting-write, going-on-steps, going-on-writes}
+use Rattle.device.proofs.Laws.{waiting-step, waiting-write, waiting-copies, going-on-steps, going-on-writes}
+use Rattle.device.proofs.Laws.{going-on-copies}
 use Rattle.bus.specs.declared.Event.{Event}
 use Rattle.bus.specs.declared.Event.the-variants.{Slot, Pulse}
 use Rattle.bus.specs.declared.Place.{Place}
-use Rattle.bus.specs.Bus.{Device, eventOf, nextState, nextBody}
-use Rattle.bus.specs.Loops.{stateAsItIs, bodyAsItIs, idleIn, placeIn, deviceAt, deviceIn, withBody, turnState, turnImage}
-use Rattle.bus.specs.Loops.{lineAt, BusState, busState, turnAt, turns, turnedFrom, statesAfter}
+use Rattle.bus.specs.Bus.{Device, eventOf, nextState, nextBody, copiedIn}
+use Rattle.bus.specs.Loops.{nextStateAsIs, nextBodyAsIs, passedOver, placeIn, deviceAtPlace, deviceIn, imageWithBody, turnState, turnImage}
+use Rattle.bus.specs.Loops.{copiedAsIs, turnCopied, mostCopied, addedTo, copiedUpTo}
+use Rattle.bus.specs.Loops.{lineAt, BusState, busState, turnAt, turnsUpTo, turnStatesFrom, turnStatesOf}
 use Rattle.bus.proofs.Laws.{Inside, place-inside}
 use Rattle.bus.proofs.Ranges.{InRange}
 
@@ -52,8 +54,8 @@ slot-is P (suc (suc byte)) h p = absurd (omega arith)
 
 -- a body put back where it was
 pub same-body : (image : List ℕ) (place : Place) → Inside place (length image)
-    → withBody image place (take (place .end - place .start) (drop (place .start) image)) ≡ image
-unfolding withBody
+    → imageWithBody image place (take (place .end - place .start) (drop (place .start) image)) ≡ image
+unfolding imageWithBody
 same-body image place h =
     let n = place .end - place .start in
     let e : place .start + n ≡ place .end = omega (arith, h .rising) in
@@ -64,9 +66,9 @@ same-body image place h =
 
 -- ---- a device in range that waits
 
-module _ (byte : ℕ) (d : Device) (ranged : InRange d) (idle : idleIn byte (d .state) ≡ true) where
+module _ (byte : ℕ) (d : Device) (ranged : InRange d) (idle : passedOver byte (d .state) ≡ true) where
   unfolded : (byte < 2) × (d .state ≡ waitingState)
-  unfolding idleIn
+  unfolding passedOver
   unfolded =
       let two = both (ltb byte 2) (waits (d .state)) idle in
       (ltb-true byte 2 (two .0), waits-waiting (d .state) (d .kind) (d .body) ranged (two .1))
@@ -83,50 +85,77 @@ module _ (byte : ℕ) (d : Device) (ranged : InRange d) (idle : idleIn byte (d .
       slot-is (λ (v : Event). d .body ≡ nextBody v level d) byte (unfolded .0)
       (λ sent. rw (unfolded .1) (sym (waiting-write (d .kind) (d .body) level)))
 
+  pub idle-copied : (level : Bool) → 0 ≡ copiedIn (eventOf byte) level d
+  unfolding copiedIn
+  idle-copied level =
+      slot-is (λ (v : Event). 0 ≡ copiedIn v level d) byte (unfolded .0)
+      (λ sent. rw (unfolded .1) (sym (waiting-copies (d .kind) (d .body) level)))
+
 -- ---- inside a transfer
 
 module _ (state : LineState) (inside : goesOn (state .transfer) ≡ true) (image : List ℕ) (i : ℕ) (level : Bool) where
-  awake : idleIn 1 state ≡ false
-  unfolding idleIn waits
+  awake : passedOver 1 state ≡ false
+  unfolding passedOver waits
   awake =
       let more : 1 < state .transfer .left = ltb-true 1 (state .transfer .left) inside in
       ne-eqb (state .transfer .left) 0 (λ none. absurd (omega (arith, more, none)))
 
   pub inside-state : lineState (shifted (state .transfer) level) ≡ turnState image i state 1 level
-  unfolding turnState eventOf stateAsItIs deviceIn deviceAt
+  unfolding turnState eventOf nextStateAsIs deviceIn deviceAtPlace
   inside-state = rw awake (sym (going-on-steps state _ _ level inside))
 
   pub inside-image : image ≡ turnImage image i state 1 level
-  unfolding turnImage eventOf bodyAsItIs deviceIn deviceAt
+  unfolding turnImage eventOf nextBodyAsIs deviceIn deviceAtPlace
   inside-image =
-      rw awake (sym (ap (withBody image (placeIn image i)) (going-on-writes state _ _ level inside)
+      rw awake (sym (ap (imageWithBody image (placeIn image i)) (going-on-writes state _ _ level inside)
       ∙ same-body image (placeIn image i) (place-inside image i)))
+
+  pub inside-copied : 0 ≡ turnCopied image i state 1 level
+  unfolding turnCopied eventOf copiedAsIs deviceIn deviceAtPlace
+  inside-copied = rw awake (sym (going-on-copies state _ _ level inside))
 
 -- ---- what has no part in a device's turn
 
 module _ (image : List ℕ) (i : ℕ) (state : LineState) where
   -- what the master sends in a slot
   pub slot-state : (byte : ℕ) (level : Bool) → byte < 2 → turnState image i state 1 level ≡ turnState image i state byte level
-  unfolding turnState idleIn eventOf stateAsItIs
+  unfolding turnState passedOver eventOf nextStateAsIs
   slot-state zero level h = refl
   slot-state (suc zero) level h = refl
   slot-state (suc (suc byte)) level h = absurd (omega arith)
 
   pub slot-image : (byte : ℕ) (level : Bool) → byte < 2 → turnImage image i state 1 level ≡ turnImage image i state byte level
-  unfolding turnImage idleIn eventOf bodyAsItIs
+  unfolding turnImage passedOver eventOf nextBodyAsIs
   slot-image zero level h = refl
   slot-image (suc zero) level h = refl
   slot-image (suc (suc byte)) level h = absurd (omega arith)
 
+  pub slot-copied : (byte : ℕ) (level : Bool) → byte < 2 → turnCopied image i state 1 level ≡ turnCopied image i state byte level
+  unfolding turnCopied passedOver eventOf copiedAsIs
+  slot-copied zero level h = refl
+  slot-copied (suc zero) level h = refl
+  slot-copied (suc (suc byte)) level h = absurd (omega arith)
+
+  -- neither a reset nor a program pulse copies
+  pub other-copied : (byte : ℕ) (level : Bool) → 2 ≤ byte → turnCopied image i state byte level ≡ 0
+  unfolding turnCopied passedOver eventOf copiedAsIs
+  other-copied zero level h = absurd (omega arith)
+  other-copied (suc zero) level h = absurd (omega arith)
+  other-copied (suc (suc zero)) level h = refl
+  other-copied (suc (suc (suc b))) level h =
+      let more : 2 < suc (suc (suc b)) = omega arith in
+      let awake′ : ltb (suc (suc (suc b))) 2 ≡ false = le-ltb (suc (suc (suc b))) 2 (omega arith) in
+      rw (awake′, event-pulse (suc (suc (suc b))) more)
+
   -- a reset and a program pulse
   pub reset-turn : (level : Bool) → (turnState image i state 2 level ≡ resetState)
-      × (turnImage image i state 2 level ≡ withBody image (placeIn image i) (resetAsIs state (deviceIn image i state .body)))
-  unfolding turnState turnImage idleIn eventOf stateAsItIs bodyAsItIs deviceIn deviceAt
+      × (turnImage image i state 2 level ≡ imageWithBody image (placeIn image i) (bodyAfterResetAsIs state (deviceIn image i state .body)))
+  unfolding turnState turnImage passedOver eventOf nextStateAsIs nextBodyAsIs deviceIn deviceAtPlace
   reset-turn level = (refl, refl)
 
-  pub pulse-turn : (byte : ℕ) (level : Bool) → 2 < byte → (turnState image i state byte level ≡ pulseAsIs state (deviceIn image i state .body))
-      × (turnImage image i state byte level ≡ withBody image (placeIn image i) (programAsIs state (deviceIn image i state .body)))
-  unfolding turnState turnImage idleIn stateAsItIs bodyAsItIs deviceIn deviceAt
+  pub pulse-turn : (byte : ℕ) (level : Bool) → 2 < byte → (turnState image i state byte level ≡ stateAfterPulseAsIs state (deviceIn image i state .body))
+      × (turnImage image i state byte level ≡ imageWithBody image (placeIn image i) (bodyAfterPulseAsIs state (deviceIn image i state .body)))
+  unfolding turnState turnImage passedOver nextStateAsIs nextBodyAsIs deviceIn deviceAtPlace
   pulse-turn byte level h =
       let e : eventOf byte ≡ Pulse = event-pulse byte h in
       let awake′ : ltb byte 2 ≡ false = le-ltb byte 2 (omega arith) in
@@ -158,11 +187,11 @@ set-same (state ∷ lines) (suc i) = ap (λ (l : List LineState). state ∷ l) (
 
 pub idle-line : (image : List ℕ) (i : ℕ) (level : Bool) (lines : List LineState) → waits (lineAt lines i) ≡ true
     → set lines i (turnState image i (lineAt lines i) 1 level) ≡ lines
-unfolding turnState idleIn
+unfolding turnState passedOver
 idle-line image i level lines idle = rw idle (set-same lines i)
 
 pub idle-turn : (level : Bool) (i : ℕ) (s : BusState) → waits (lineAt (s .lines) i) ≡ true → turnAt 1 level i s ≡ s
-unfolding turnAt turnImage idleIn
+unfolding turnAt turnImage passedOver
 idle-turn level i s idle =
     ap (λ (l : List LineState). busState (turnImage (s .image) i (lineAt (s .lines) i) 1 level) l) (idle-line (s .image) i level (s .lines) idle)
     ∙ rw idle
@@ -171,8 +200,8 @@ idle-turn level i s idle =
 
 module _ (v w : ℕ) (l k : Bool)
     (state-same : (image : List ℕ) (i : ℕ) (state : LineState) → turnState image i state v l ≡ turnState image i state w k) where
-  pub turned-same : (image : List ℕ) (i : ℕ) (states : List LineState) → turnedFrom image i states v l ≡ turnedFrom image i states w k
-  unfolding turnedFrom
+  pub turned-same : (image : List ℕ) (i : ℕ) (states : List LineState) → turnStatesFrom image i states v l ≡ turnStatesFrom image i states w k
+  unfolding turnStatesFrom
   turned-same image i [] = refl
   turned-same image i (state ∷ states) = λ j. state-same image i state j ∷ turned-same image (suc i) states j
 
@@ -181,27 +210,59 @@ module _ (v w : ℕ) (l k : Bool)
     unfolding turnAt
     turn-same i s = λ j. busState (image-same (s .image) i (lineAt (s .lines) i) j) (set (s .lines) i (state-same (s .image) i (lineAt (s .lines) i) j))
 
-    pub turns-same : (i : ℕ) (s : BusState) → turns v l i s ≡ turns w k i s
-    unfolding turns
+    pub turns-same : (i : ℕ) (s : BusState) → turnsUpTo v l i s ≡ turnsUpTo w k i s
+    unfolding turnsUpTo
     turns-same zero s = refl
-    turns-same (suc i) s = ap (turnAt v l i) (turns-same i s) ∙ turn-same i (turns w k i s)
+    turns-same (suc i) s = ap (turnAt v l i) (turns-same i s) ∙ turn-same i (turnsUpTo w k i s)
 
-pub turns-slot : (byte : ℕ) (level : Bool) (n : ℕ) (s : BusState) → byte < 2 → turns 1 level n s ≡ turns byte level n s
+-- the bytes that they copy
+idle-copied-one : (level : Bool) (i : ℕ) (s : BusState) → waits (lineAt (s .lines) i) ≡ true
+    → turnCopied (s .image) i (lineAt (s .lines) i) 1 level ≡ 0
+unfolding turnCopied passedOver
+idle-copied-one level i s idle = rw idle
+
+pub added-none : (sum : ℕ) → addedTo sum 0 ≡ sum
+unfolding addedTo
+added-none sum = rw (le-ltb (mostCopied - sum) 0 (omega arith)) (omega arith)
+
+-- a device that waits copies none
+pub idle-copied-more : (level : Bool) (i sum : ℕ) (s : BusState) → waits (lineAt (s .lines) i) ≡ true
+    → addedTo sum (turnCopied (s .image) i (lineAt (s .lines) i) 1 level) ≡ sum
+idle-copied-more level i sum s idle = ap (addedTo sum) (idle-copied-one level i s idle) ∙ added-none sum
+
+pub turns-slot : (byte : ℕ) (level : Bool) (n : ℕ) (s : BusState) → byte < 2 → turnsUpTo 1 level n s ≡ turnsUpTo byte level n s
 turns-slot byte level n s h =
     turns-same 1 byte level level (λ image i state. slot-state image i state byte level h) (λ image i state. slot-image image i state byte level h) n s
 
-pub turns-other : (byte : ℕ) (level : Bool) (n : ℕ) (s : BusState) → 2 ≤ byte → turns byte true n s ≡ turns byte level n s
+pub turns-other : (byte : ℕ) (level : Bool) (n : ℕ) (s : BusState) → 2 ≤ byte → turnsUpTo byte true n s ≡ turnsUpTo byte level n s
 turns-other byte level n s h =
     turns-same byte byte true level (λ image i state. other-state image i state byte level h) (λ image i state. other-image image i state byte level h) n s
 
+pub copied-slot : (byte : ℕ) (level : Bool) (n : ℕ) (s : BusState) → byte < 2
+    → copiedUpTo 1 level n s ≡ copiedUpTo byte level n s
+unfolding copiedUpTo
+copied-slot byte level zero s h = refl
+copied-slot byte level (suc i) s h = λ j.
+    let before = turns-slot byte level i s h j in
+    addedTo (copied-slot byte level i s h j)
+    (slot-copied (before .image) i (lineAt (before .lines) i) byte level h j)
+
+pub copied-other : (byte : ℕ) (level : Bool) (n : ℕ) (s : BusState) → 2 ≤ byte → copiedUpTo byte level n s ≡ 0
+unfolding copiedUpTo
+copied-other byte level zero s h = refl
+copied-other byte level (suc i) s h =
+    let before = turnsUpTo byte level i s in
+    ap (addedTo (copiedUpTo byte level i s)) (other-copied (before .image) i (lineAt (before .lines) i) byte level h)
+    ∙ added-none (copiedUpTo byte level i s) ∙ copied-other byte level i s h
+
 pub states-slot : (image : List ℕ) (lines : List LineState) (n byte : ℕ) (level : Bool) → byte < 2
-    → statesAfter image lines n 1 level ≡ statesAfter image lines n byte level
-unfolding statesAfter
+    → turnStatesOf image lines n 1 level ≡ turnStatesOf image lines n byte level
+unfolding turnStatesOf
 states-slot image lines n byte level h =
     ap (λ (l : List LineState). l ++ drop n lines) (turned-same 1 byte level level (λ image i state. slot-state image i state byte level h) image 0 (take n lines))
 
 pub states-other : (image : List ℕ) (lines : List LineState) (n byte : ℕ) (level : Bool) → 2 ≤ byte
-    → statesAfter image lines n byte true ≡ statesAfter image lines n byte level
-unfolding statesAfter
+    → turnStatesOf image lines n byte true ≡ turnStatesOf image lines n byte level
+unfolding turnStatesOf
 states-other image lines n byte level h =
     ap (λ (l : List LineState). l ++ drop n lines) (turned-same byte byte true level (λ image i state. other-state image i state byte level h) image 0 (take n lines))

@@ -3,6 +3,7 @@ pub mod Kept
 pub mod Laws
 pub mod Levels
 pub mod Lines
+pub mod Looked
 pub mod Ranges
 pub mod Runs
 pub mod Shapes

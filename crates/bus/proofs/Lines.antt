@@ -4,6 +4,8 @@
 --     R, mach, tellsR              the type of a line state, its machine value, and that the relation tells it
 --     typed, lawfulR, copyR        a machine value that the relation has of a line state has its MIR type; the laws of the type
 --     line                         a line state as plain data of a parameter, a result or a row
+--     scan                         a level with the number of devices looked at, as plain data of a result
+--     slot-turn, result, ran       what `slot`, `step` and `run` return, as plain data of a result
 -- `typed`, `lawfulR` and `copyR` assume `Given`. The rest assumes nothing.
 use mathlib.Core.Path.{_≡_, refl}
 use Prim.Native.Nat.{ℕ, _<_, _+_, _*_, _^_}
@@ -24,6 +26,14 @@ use Rattle.device.specs.declared.LineState.{LineState}
 use Rattle.bits.specs.Bit.{levelByte}
 use Rattle.device.proofs.LineState as T
 use Rattle.device.proofs.LineState.Laws as T′
+use Rattle.bus.proofs.Scan as S
+use Rattle.bus.proofs.Scan.Laws as S′
+use Rattle.bus.proofs.SlotTurn as U
+use Rattle.bus.proofs.SlotTurn.Laws as U′
+use Rattle.bus.proofs.EventResult as E
+use Rattle.bus.proofs.EventResult.Laws as E′
+use Rattle.bus.proofs.RunResult as N
+use Rattle.bus.proofs.RunResult.Laws as N′
 
 -- how many bytes a line state takes. It is the one number that the walks take from its layout: `rt mir` shows it, in `mul(_, 8u64)`
 abbrev pub width : ℕ
@@ -87,4 +97,56 @@ line = record {
   lies = λ q x b o. refl;
   makes = λ 𝓤 H A W. LL.makes T.the-type T′.the-plain 𝓤 H A;
   typed = λ 𝓤 H A W x is. typed 𝓤 H A W x (mach x) is;
+}
+
+-- a scan, as plain data of a result
+abbrev pub scan : Datum
+scan = record {
+  type = S.the-row;
+  ty = S′.mir;
+  mach = λ s. LL.tuple-val S.the-type S′.the-laws (S.the-type .to s);
+  tells = LL.tells S.the-type S′.the-laws;
+  silent = λ x f. refl;
+  lies = λ q x b o. refl;
+  makes = λ 𝓤 H A W. LL.makes S.the-type S′.the-plain 𝓤 H A;
+  typed = λ 𝓤 H A W x is. LL.lawful S.the-type S′.the-laws 𝓤 H A W .typed x _ is .0;
+}
+
+-- what `slot` returns, as plain data of a result
+abbrev pub slot-turn : Datum
+slot-turn = record {
+  type = U.the-row;
+  ty = U′.mir;
+  mach = λ s. LL.tuple-val U.the-type U′.the-laws (U.the-type .to s);
+  tells = LL.tells U.the-type U′.the-laws;
+  silent = λ x f. refl;
+  lies = λ q x b o. refl;
+  makes = λ 𝓤 H A W. LL.makes U.the-type U′.the-plain 𝓤 H A;
+  typed = λ 𝓤 H A W x is. LL.lawful U.the-type U′.the-laws 𝓤 H A W .typed x _ is .0;
+}
+
+-- what `step` returns, as plain data of a result
+abbrev pub result : Datum
+result = record {
+  type = E.the-row;
+  ty = E′.mir;
+  mach = λ s. LL.tuple-val E.the-type E′.the-laws (E.the-type .to s);
+  tells = LL.tells E.the-type E′.the-laws;
+  silent = λ x f. refl;
+  lies = λ q x b o. refl;
+  makes = λ 𝓤 H A W. LL.makes E.the-type E′.the-plain 𝓤 H A;
+  typed = λ 𝓤 H A W x is. LL.lawful E.the-type E′.the-laws 𝓤 H A W .typed x _ is .0;
+}
+
+-- what `run` returns, as plain data of a result
+abbrev pub ran : Datum
+ran = record {
+  type = N.the-row;
+  ty = N′.mir;
+  mach = λ s. LL.tuple-val N.the-type N′.the-laws (N.the-type .to s);
+  tells = LL.tells N.the-type N′.the-laws;
+  silent = λ x f. refl;
+  lies = λ q x b o. refl;
+  makes = λ 𝓤 H A W. LL.makes N.the-type N′.the-plain 𝓤 H A;
+  typed = λ 𝓤 H A W x is. LL.lawful N.the-type N′.the-laws 𝓤 H A W .typed x _ is .0;
 }

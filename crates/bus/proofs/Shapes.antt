@@ -6,7 +6,7 @@ use package.mir.Syntax.{w8, w32, w64}
 use denote.Builtin.{u8}
 use Rattle.walks.proofs.Params.{Shape, mutK, shrK, dataK}
 use Rattle.walks.proofs.Vars.{num, nil, truth}
-use Rattle.bus.proofs.Lines.{R, line}
+use Rattle.bus.proofs.Lines.{R, line, scan, slot-turn, result, ran}
 
 abbrev pub waiting-shape : Shape
 waiting-shape = record { lifetimes = 0; outlives = []; kinds = []; gives = line }
@@ -14,16 +14,39 @@ waiting-shape = record { lifetimes = 0; outlives = []; kinds = []; gives = line 
 abbrev pub asked-shape : Shape
 asked-shape = record { lifetimes = 0; outlives = []; kinds = dataK (num w8) ∷ dataK (num w64) ∷ []; gives = num w64 }
 
-abbrev pub high-with-shape : Shape
-high-with-shape = record { lifetimes = 0; outlives = []; kinds = dataK truth ∷ dataK line ∷ []; gives = truth }
-
-abbrev pub level-of-shape : Shape
-level-of-shape = record {
+abbrev pub looks-on-shape : Shape
+looks-on-shape = record {
   lifetimes = 0;
   outlives = [];
-  kinds = dataK (num w8) ∷ dataK (num w64) ∷ dataK truth ∷ [];
+  kinds = dataK truth ∷ dataK (num w64) ∷ dataK (num w64) ∷ [];
   gives = truth;
 }
+
+abbrev pub sends-shape : Shape
+sends-shape = record { lifetimes = 0; outlives = []; kinds = dataK line ∷ []; gives = truth }
+
+abbrev pub scan-of-shape : Shape
+scan-of-shape = record {
+  lifetimes = 0;
+  outlives = [];
+  kinds = dataK (num w8) ∷ dataK (num w64) ∷ dataK truth ∷ dataK (num w64) ∷ [];
+  gives = scan;
+}
+
+abbrev pub state-after-shape : Shape
+state-after-shape = record { lifetimes = 0; outlives = []; kinds = dataK slot-turn ∷ []; gives = line }
+
+abbrev pub add-turn-shape : Shape
+add-turn-shape = record { lifetimes = 0; outlives = []; kinds = dataK (num w64) ∷ dataK slot-turn ∷ []; gives = num w64 }
+
+abbrev pub add-event-shape : Shape
+add-event-shape = record { lifetimes = 0; outlives = []; kinds = dataK (num w64) ∷ dataK result ∷ []; gives = num w64 }
+
+abbrev pub event-result-shape : Shape
+event-result-shape = record { lifetimes = 0; outlives = []; kinds = dataK scan ∷ dataK (num w64) ∷ []; gives = result }
+
+abbrev pub run-result-shape : Shape
+run-result-shape = record { lifetimes = 0; outlives = []; kinds = dataK (num w32) ∷ dataK (num w64) ∷ []; gives = ran }
 
 abbrev pub waits-shape : Shape
 waits-shape = record { lifetimes = 0; outlives = []; kinds = dataK line ∷ []; gives = truth }
@@ -49,7 +72,7 @@ slot-shape = record {
   lifetimes = 1;
   outlives = [];
   kinds = mutK 0 tt u8 ∷ dataK (num w64) ∷ dataK line ∷ dataK truth ∷ [];
-  gives = line;
+  gives = slot-turn;
 }
 
 abbrev pub read-slot-shape : Shape
@@ -90,7 +113,7 @@ level-shape = record {
   lifetimes = 1;
   outlives = [];
   kinds = shrK 0 tt R ∷ dataK (num w64) ∷ dataK (num w8) ∷ [];
-  gives = truth;
+  gives = scan;
 }
 
 abbrev pub slot-all-shape : Shape
@@ -98,7 +121,7 @@ slot-all-shape = record {
   lifetimes = 2;
   outlives = [];
   kinds = mutK 0 tt u8 ∷ mutK 1 tt R ∷ dataK (num w64) ∷ dataK truth ∷ [];
-  gives = nil;
+  gives = num w64;
 }
 
 abbrev pub turn-all-shape : Shape
@@ -114,7 +137,15 @@ step-event-shape = record {
   lifetimes = 2;
   outlives = [];
   kinds = mutK 0 tt u8 ∷ mutK 1 tt R ∷ dataK (num w64) ∷ dataK (num w8) ∷ dataK truth ∷ [];
-  gives = nil;
+  gives = num w64;
+}
+
+abbrev pub step-shape : Shape
+step-shape = record {
+  lifetimes = 2;
+  outlives = [];
+  kinds = mutK 0 tt u8 ∷ mutK 1 tt R ∷ dataK (num w64) ∷ dataK (num w8) ∷ [];
+  gives = result;
 }
 
 abbrev pub read-slot-all-shape : Shape
@@ -164,7 +195,7 @@ run-events-shape = record {
   outlives = [];
   kinds = mutK 0 tt u8 ∷ shrK 1 tt u8 ∷ mutK 2 tt u8
       ∷ mutK 3 tt R ∷ dataK (num w64) ∷ [];
-  gives = nil;
+  gives = num w64;
 }
 
 abbrev pub run-shape : Shape
@@ -173,5 +204,5 @@ run-shape = record {
   outlives = [];
   kinds = mutK 0 tt u8 ∷ shrK 1 tt u8 ∷ mutK 2 tt u8 ∷ mutK 3 tt R
       ∷ [];
-  gives = num w32;
+  gives = ran;
 }

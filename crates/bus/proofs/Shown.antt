@@ -1,7 +1,7 @@
 -- Where the image is not refused and there is room, what the loops of `specs/Loops.antt` do is what `specs/Bus.antt` and `specs/Run.antt` say.
 use Prim.Native.Nat.{ℕ, zero, suc, _+_, _-_, _*_, _<_, _≤_}
 use mathlib.Core.Path.{_≡_, refl, sym, ap, subst, _∙_}
-use mathlib.Core.Bool.{Bool, true, false, cond, not}
+use mathlib.Core.Bool.{Bool, true, false, cond, not, _&&_}
 use mathlib.Core.List.{List, [], _∷_, _++_, map, append-assoc, append-nil, map-append}
 use native.Mathlib.Omega.{arith}
 use native.Mathlib.Nat.{add-zero}
@@ -9,11 +9,11 @@ use native.Mathlib.Numerals.{add-one}
 use lib.ListN.{length, getD, set, take, drop, replicate, length-append, length-map, length-replicate, take-append-drop, replicate-append-replicate, List·getD-append}
 use lib.Seq.{length-take-le, getD-take, take-at, drop-at, getD-at, set-at, drop-append-add, take-suc, drop-cons, append-snoc, take-length, drop-length, drop-drop}
 use lib.Dec.{T, eqb}
-use borrow.Author.Tests.{lt-ltb, le-leb}
+use borrow.Author.Tests.{lt-ltb, le-ltb, le-leb}
 use Rattle.kind.specs.declared.Kind.{Kind}
 use Rattle.kind.specs.declared.Kind.the-variants.{Unknown}
-use Rattle.kind.specs.Kind.{kindOf, bodySize, codeLength}
-use Rattle.image.specs.Image.{countOf, familyAt, offsetAt, kindAt, packedAt, bodyAt, codeAt}
+use Rattle.kind.specs.Kind.{kindOf, bodySize, codeLength, isFlat}
+use Rattle.image.specs.Image.{countOf, editionOf, familyAt, secondAt, offsetAt, flatAt, kindAt, packedAt, bodyAt, codeAt}
 use Rattle.image.specs.Refusal.{imageRefusal}
 use Rattle.image.proofs.Accepted.{Known, accepted-known, body-length, body-code}
 use Rattle.device.specs.declared.LineState.{LineState}
@@ -21,20 +21,27 @@ use Rattle.device.specs.Device.{waitingState}
 use Rattle.bus.specs.declared.Place.{Place}
 use Rattle.bits.specs.Bit.{levelByte}
 use Rattle.bus.specs.Bus.{Device, deviceWith, eventOf, levelOf, nextState, nextBody, nextDevice, busStepAt, busStep, Run, withAnswer, runTrace}
-use Rattle.bus.specs.Run.{devicesFrom, waitingDevices, tableOfContents, bodiesOf, statesOf, runOutcome, leftByRun, runAt, runOf, RunOutcome, RunLeaves}
-use Rattle.bus.specs.Refusal.{someByte, badTrace, badPulse, runRefusal}
-use Rattle.bus.specs.Loops.{idleIn, stateAsItIs, bodyAsItIs, placeIn, deviceAt, deviceIn, withBody, turnState, turnImage, levelAsItIs, levelOn, lineAt, BusState, busState, turnAt, turns, filled, RunState, runState, eventAt, events}
+use Rattle.bus.specs.Bus.{lookedAt, copiedIn, copiedByAll, copiedInTrace}
+use Rattle.bus.specs.Run.{devicesFrom, waitingDevices, tableOfContents, bodiesOf, statesOf, runResult, runOutcome, leftByRun, runAt, runOf, RunOutcome, RunLeaves}
+use Rattle.bus.specs.Refusal.{someByte, badTrace, noFirstReset, badPulse, runRefusal}
+use Rattle.bus.specs.Loops.{passedOver, nextStateAsIs, nextBodyAsIs, placeIn, deviceAtPlace, deviceIn, imageWithBody, turnState, turnImage, levelAsIs, levelOn, lineAt, BusState, busState, turnAt, turnsUpTo, filledUpTo, RunState, runState, runEventAt, runEventsUpTo}
+use Rattle.bus.specs.Loops.{lookedAsIs, lookedOn, fewerOf, stepOn}
+use Rattle.bus.specs.Loops.{copiedAsIs, turnCopied, mostCopied, addedTo, copiedUpTo, copiedOn, copiedByEvents}
+use Rattle.bus.specs.declared.RunResult.{RunResult}
 use Rattle.device.proofs.Range.{waiting-in-range}
-use Rattle.bus.proofs.Laws.{admitted, not-refused}
+use Rattle.bus.proofs.Laws.{admitted, not-refused, short-trace, fewer-first}
 use Rattle.bus.proofs.Ranges.{InRange, AllIn, as-it-is-state, as-it-is-body, level-as-it-is, part-in, in-at, run-in}
-use Rattle.bus.proofs.Idle.{idle-state, idle-body}
+use Rattle.bus.proofs.Ranges.{looked-as-it-is, as-it-is-copied}
+use Rattle.bus.proofs.Idle.{idle-state, idle-body, idle-copied}
 use Rattle.bus.proofs.Runs.{runAfter, run-append, run-length, run-same, AllSame, none, also, part-same, same-length}
+use Rattle.bus.proofs.Runs.{copied-append, copied-once, all-copied-append, one-copied-most, all-copied-most, copied-most}
 
 -- ---- devices that stand at the entries of an image from i on
 pub record Entered (image : List ℕ) (i : ℕ) (d : Device) : Type 0 where
   pub kind : d .kind ≡ kindAt image i
   pub size : length (d .body) ≡ bodySize (kindAt image i)
   pub code : take codeLength (d .body) ≡ codeAt image i
+  pub flat : isFlat (kindAt image i) ≡ true → d .body ≡ bodyAt image i
 
 abbrev pub Stand : List ℕ → ℕ → List Device → Type 0
 Stand image i [] = Unit {0}
@@ -43,7 +50,15 @@ Stand image i (d ∷ ds) = Entered image i d × Stand image (suc i) ds
 -- what is the same stands there too
 pub stand-same : {ds es : List Device} (image : List ℕ) (i : ℕ) → AllSame ds es → Stand image i es → Stand image i ds
 stand-same image i none s = tt
-stand-same image i (also a p) s = (record { kind = a .kind ∙ s .0 .kind; size = a .size ∙ s .0 .size; code = a .code ∙ s .0 .code }, stand-same image (suc i) p (s .1))
+stand-same image i (also a p) s = (
+  record {
+    kind = a .kind ∙ s .0 .kind;
+    size = a .size ∙ s .0 .size;
+    code = a .code ∙ s .0 .code;
+    flat = λ e. a .flat (ap isFlat (s .0 .kind) ∙ e) ∙ s .0 .flat e;
+  },
+  stand-same image (suc i) p (s .1),
+)
 
 -- one of them
 stands-at : (image : List ℕ) (i : ℕ) (xs : List Device) (d : Device) (ys : List Device) → Stand image i (xs ++ d ∷ ys) → Entered image (i + length xs) d
@@ -78,6 +93,11 @@ place-known : (image : List ℕ) (i : ℕ) → i < countOf image → offsetAt im
 unfolding placeIn
 place-known image i h fits = rw (lt-ltb i (countOf image) h, le-leb (offsetAt image i + bodySize (kindAt image i)) (length image) fits)
 
+-- a sum that stays below the largest number
+added-fits : (sum bytes : ℕ) → sum + bytes ≤ mostCopied → addedTo sum bytes ≡ sum + bytes
+unfolding addedTo
+added-fits sum bytes h = rw (le-ltb (mostCopied - sum) bytes (omega (arith, h)))
+
 -- what stands past the end of a list of devices, which nothing reads
 abbrev pub nobody : Device
 nobody = deviceWith Unknown [] waitingState
@@ -99,8 +119,15 @@ module _ (image : List ℕ) (known : Known image) where
   pub family-kept : (ds : List Device) (i : ℕ) → i < countOf image → familyAt (imageOf ds) i ≡ familyAt image i
   family-kept ds i h = contents-at ds (2 + 4 * i) (omega arith)
 
+  -- edition, family and second byte say the kind
   pub kind-kept : (ds : List Device) (i : ℕ) → i < countOf image → kindAt (imageOf ds) i ≡ kindAt image i
-  kind-kept ds i h = ap kindOf (family-kept ds i h)
+  kind-kept ds i h =
+      let edition = contents-at ds 1 (omega arith) in
+      let family = family-kept ds i h in
+      let second = contents-at ds (2 + 4 * i + 1) (omega arith) in
+      ap (λ (f : ℕ). kindOf f (flatAt (imageOf ds) i)) family
+      ∙ ap (λ (e : ℕ). kindOf (familyAt image i) (eqb e 2 && eqb (secondAt (imageOf ds) i) 1)) edition
+      ∙ ap (λ (b : ℕ). kindOf (familyAt image i) (eqb (editionOf image) 2 && eqb b 1)) second
 
   pub offset-kept : (ds : List Device) (i : ℕ) → i < countOf image → offsetAt (imageOf ds) i ≡ offsetAt image i
   offset-kept ds i h = omega (arith, contents-at ds (2 + 4 * i + 2) (omega arith), contents-at ds (2 + 4 * i + 3) (omega arith))
@@ -158,14 +185,14 @@ module _ (image : List ℕ) (known : Known image) where
         ∙ take-at (d .body) (bodiesOf ys) (length (d .body)) refl
 
     pub device-is : deviceIn P (length xs) (d .state) ≡ d
-    unfolding deviceIn deviceAt
-    device-is = ap (λ (p : Place). deviceAt P p (d .state)) place-is ∙ ap (λ (b : List ℕ). deviceWith (d .kind) b (d .state)) body-is
+    unfolding deviceIn deviceAtPlace
+    device-is = ap (λ (p : Place). deviceAtPlace P p (d .state)) place-is ∙ ap (λ (b : List ℕ). deviceWith (d .kind) b (d .state)) body-is
 
     -- another body in its place
-    pub body-put : (e : Device) → withBody P (placeIn P (length xs)) (e .body) ≡ imageOf (xs ++ e ∷ ys)
-    unfolding withBody bodiesOf
+    pub body-put : (e : Device) → imageWithBody P (placeIn P (length xs)) (e .body) ≡ imageOf (xs ++ e ∷ ys)
+    unfolding imageWithBody bodiesOf
     body-put e =
-        ap (λ (p : Place). withBody P p (e .body)) place-is
+        ap (λ (p : Place). imageWithBody P p (e .body)) place-is
         ∙ ap (λ (l : List ℕ). take (length before) l ++ (e .body ++ drop (length before + length (d .body)) l)) image-split
         ∙ ap (λ (l : List ℕ). l ++ (e .body ++ drop (length before + length (d .body)) (before ++ (d .body ++ bodiesOf ys)))) (take-at before (d .body ++ bodiesOf ys) (length before) refl)
         ∙ ap (λ (l : List ℕ). before ++ (e .body ++ l)) (drop-append-add before (d .body ++ bodiesOf ys) (length (d .body)) ∙ drop-at (d .body) (bodiesOf ys) (length (d .body)) refl)
@@ -207,25 +234,34 @@ module _ (image : List ℕ) (known : Known image) where
 
       turn-state : turnState whole (length xs) (d .state) byte level ≡ nextState (eventOf byte) level d
       unfolding turnState
-      turn-state = choose (idleIn byte (d .state)) refl
+      turn-state = choose (passedOver byte (d .state)) refl
         where
-          choose : (b : Bool) → idleIn byte (d .state) ≡ b
-              → cond b (d .state) (stateAsItIs (eventOf byte) level (deviceIn whole (length xs) (d .state))) ≡ nextState (eventOf byte) level d
+          choose : (b : Bool) → passedOver byte (d .state) ≡ b
+              → cond b (d .state) (nextStateAsIs (eventOf byte) level (deviceIn whole (length xs) (d .state))) ≡ nextState (eventOf byte) level d
           choose true e = idle-state byte d ranged e level
-          choose false e = ap (stateAsItIs (eventOf byte) level) (device-is xs d ys stand all) ∙ as-it-is-state d ranged (eventOf byte) level
+          choose false e = ap (nextStateAsIs (eventOf byte) level) (device-is xs d ys stand all) ∙ as-it-is-state d ranged (eventOf byte) level
 
       turn-image : turnImage whole (length xs) (d .state) byte level ≡ imageOf (xs ++ after ∷ ys)
       unfolding turnImage nextDevice
-      turn-image = choose (idleIn byte (d .state)) refl ∙ body-put xs d ys stand all after
+      turn-image = choose (passedOver byte (d .state)) refl ∙ body-put xs d ys stand all after
         where
-          choose : (b : Bool) → idleIn byte (d .state) ≡ b
-              → cond b whole (withBody whole (placeIn whole (length xs)) (bodyAsItIs (eventOf byte) level (deviceIn whole (length xs) (d .state))))
-              ≡ withBody whole (placeIn whole (length xs)) (nextBody (eventOf byte) level d)
+          choose : (b : Bool) → passedOver byte (d .state) ≡ b
+              → cond b whole (imageWithBody whole (placeIn whole (length xs)) (nextBodyAsIs (eventOf byte) level (deviceIn whole (length xs) (d .state))))
+              ≡ imageWithBody whole (placeIn whole (length xs)) (nextBody (eventOf byte) level d)
           choose true e =
-              sym (ap (λ (b : List ℕ). withBody whole (placeIn whole (length xs)) b) (sym (idle-body byte d ranged e level)) ∙ body-put xs d ys stand all d)
+              sym (ap (λ (b : List ℕ). imageWithBody whole (placeIn whole (length xs)) b) (sym (idle-body byte d ranged e level)) ∙ body-put xs d ys stand all d)
           choose false e =
-              ap (λ (c : Device). withBody whole (placeIn whole (length xs)) (bodyAsItIs (eventOf byte) level c)) (device-is xs d ys stand all)
-              ∙ ap (λ (b : List ℕ). withBody whole (placeIn whole (length xs)) b) (as-it-is-body d ranged (eventOf byte) level)
+              ap (λ (c : Device). imageWithBody whole (placeIn whole (length xs)) (nextBodyAsIs (eventOf byte) level c)) (device-is xs d ys stand all)
+              ∙ ap (λ (b : List ℕ). imageWithBody whole (placeIn whole (length xs)) b) (as-it-is-body d ranged (eventOf byte) level)
+
+      turn-copied : turnCopied whole (length xs) (d .state) byte level ≡ copiedIn (eventOf byte) level d
+      unfolding turnCopied
+      turn-copied = choose (passedOver byte (d .state)) refl
+        where
+          choose : (b : Bool) → passedOver byte (d .state) ≡ b
+              → cond b 0 (copiedAsIs (eventOf byte) level (deviceIn whole (length xs) (d .state))) ≡ copiedIn (eventOf byte) level d
+          choose true e = idle-copied byte d ranged e level
+          choose false e = ap (copiedAsIs (eventOf byte) level) (device-is xs d ys stand all) ∙ as-it-is-copied d ranged (eventOf byte) level
 
       turn-is : turnAt byte level (length xs) (busStateOf (xs ++ d ∷ ys)) ≡ busStateOf (xs ++ after ∷ ys)
       unfolding turnAt nextDevice
@@ -239,8 +275,8 @@ module _ (image : List ℕ) (known : Known image) where
 
     module _ (ds : List Device) (stand : Stand image 0 ds) (all : length ds ≡ countOf image) (ranged : AllIn ds) where
       -- the turns of the first i devices
-      turns-are : (byte : ℕ) (level : Bool) (i : ℕ) → i ≤ length ds → turns byte level i (busStateOf ds) ≡ busStateOf (map (nextDevice (eventOf byte) level) (take i ds) ++ drop i ds)
-      unfolding turns
+      turns-are : (byte : ℕ) (level : Bool) (i : ℕ) → i ≤ length ds → turnsUpTo byte level i (busStateOf ds) ≡ busStateOf (map (nextDevice (eventOf byte) level) (take i ds) ++ drop i ds)
+      unfolding turnsUpTo
       turns-are byte level zero h = refl
       turns-are byte level (suc i) h =
           let f = nextDevice (eventOf byte) level in
@@ -256,14 +292,61 @@ module _ (image : List ℕ) (known : Known image) where
           (in-at xs d ys (subst AllIn cut (part-in (eventOf byte) level i ds ranged)))
           ∙ ap busStateOf (sym (ap (λ (l : List Device). map f l ++ ys) (take-suc ds i nobody h) ∙ ap (λ (l : List Device). l ++ ys) (map-append f (take i ds) (d ∷ [])) ∙ append-snoc xs (f d) ys))
 
+      -- the bytes that they copy
+      copied-are : (byte : ℕ) (level : Bool) (i : ℕ) → i ≤ length ds
+          → copiedUpTo byte level i (busStateOf ds) ≡ copiedByAll (eventOf byte) level (take i ds)
+      unfolding copiedUpTo copiedByAll
+      copied-are byte level zero h = refl
+      copied-are byte level (suc i) h =
+          let event = eventOf byte in
+          let f = nextDevice event level in
+          let d = getD ds i nobody in
+          let xs = map f (take i ds) in
+          let ys = drop (suc i) ds in
+          let len : length xs ≡ i = length-map (take i ds) f ∙ length-take-le i ds (omega arith) in
+          let cut : xs ++ drop i ds ≡ xs ++ d ∷ ys = ap (λ (l : List Device). xs ++ l) (drop-cons ds i nobody h) in
+          let same : AllSame (xs ++ d ∷ ys) ds = subst (λ (l : List Device). AllSame l ds) cut (part-same event level i ds) in
+          let before : turnsUpTo byte level i (busStateOf ds) ≡ busStateOf (xs ++ d ∷ ys) =
+          turns-are byte level i (omega arith) ∙ ap busStateOf cut in
+          let one : turnCopied (imageOf (xs ++ d ∷ ys)) i (lineAt (linesOf (xs ++ d ∷ ys)) i) byte level ≡ copiedIn event level d =
+          ap (λ (j : ℕ). turnCopied (imageOf (xs ++ d ∷ ys)) j (lineAt (linesOf (xs ++ d ∷ ys)) j) byte level) (sym len)
+          ∙ ap (λ (l : LineState). turnCopied (imageOf (xs ++ d ∷ ys)) (length xs) l byte level) (line-is xs d ys)
+          ∙ turn-copied byte level xs d ys (stand-same image 0 same stand) (same-length same ∙ all)
+          (in-at xs d ys (subst AllIn cut (part-in event level i ds ranged))) in
+          let few : copiedByAll event level (take i ds) ≤ 32 * i =
+          subst (λ (m : ℕ). copiedByAll event level (take i ds) ≤ 32 * m) (length-take-le i ds (omega arith)) (all-copied-most event level (take i ds)) in
+          ap (λ (s : BusState). addedTo (copiedUpTo byte level i (busStateOf ds)) (turnCopied (s .image) i (lineAt (s .lines) i) byte level)) before
+          ∙ (λ j. addedTo (copied-are byte level i (omega arith) j) (one j))
+          ∙ added-fits (copiedByAll event level (take i ds)) (copiedIn event level d)
+          (omega (arith, few, one-copied-most event level d, all, known .few))
+          ∙ sym (ap (copiedByAll event level) (take-suc ds i nobody h) ∙ all-copied-append event level (take i ds) (d ∷ []) ∙ omega arith)
+
       pub level-is : (byte : ℕ) → levelOn (linesOf ds) (countOf image) byte ≡ levelOf (eventOf byte) ds
       unfolding levelOn
       level-is byte =
           let len : length (statesOf ds) ≡ countOf image = length-map ds (λ (x : Device). x .state) ∙ all in
-          ap (levelAsItIs (eventOf byte)) (take-at (statesOf ds) tail (countOf image) len)
+          ap (levelAsIs (eventOf byte)) (take-at (statesOf ds) tail (countOf image) len)
           ∙ level-as-it-is (eventOf byte) ds ranged
 
-      pub turned-is : (byte : ℕ) (level : Bool) → turns byte level (length ds) (busStateOf ds) ≡ busStateOf (map (nextDevice (eventOf byte) level) ds)
+      pub looked-is : (byte : ℕ) → lookedOn (linesOf ds) (countOf image) byte ≡ lookedAt (eventOf byte) ds
+      unfolding lookedOn
+      looked-is byte =
+          let len : length (statesOf ds) ≡ countOf image = length-map ds (λ (x : Device). x .state) ∙ all in
+          ap (lookedAsIs (eventOf byte)) (take-at (statesOf ds) tail (countOf image) len)
+          ∙ looked-as-it-is (eventOf byte) ds ranged
+
+      pub event-copied : (byte : ℕ) → copiedOn (countOf image) byte (busStateOf ds) ≡ copiedByAll (eventOf byte) (levelOf (eventOf byte) ds) ds
+      unfolding copiedOn
+      event-copied byte =
+          let level = levelOf (eventOf byte) ds in
+          let room : countOf image ≤ length (linesOf ds) =
+          omega (arith, all, length-append (statesOf ds) tail, length-map ds (λ (x : Device). x .state)) in
+          ap (λ (l : Bool). copiedUpTo byte l (fewerOf (countOf image) (length (linesOf ds))) (busStateOf ds)) (level-is byte)
+          ∙ ap (λ (m : ℕ). copiedUpTo byte level m (busStateOf ds)) (fewer-first (countOf image) (length (linesOf ds)) room ∙ sym all)
+          ∙ copied-are byte level (length ds) (omega arith)
+          ∙ ap (copiedByAll (eventOf byte) level) (take-length ds)
+
+      pub turned-is : (byte : ℕ) (level : Bool) → turnsUpTo byte level (length ds) (busStateOf ds) ≡ busStateOf (map (nextDevice (eventOf byte) level) ds)
       turned-is byte level =
           let f = nextDevice (eventOf byte) level in
           turns-are byte level (length ds) (omega arith)
@@ -289,8 +372,8 @@ module _ (image : List ℕ) (known : Known image) where
           ∙ sym (append-snoc (ran k .answers) a (drop (suc k) answers))
 
       -- one event
-      event-is : (k : ℕ) → k < length trace → eventAt (getD trace k 0) (countOf image) k (runStateOf k) ≡ runStateOf (suc k)
-      unfolding eventAt runTrace withAnswer busStep busStepAt
+      event-is : (k : ℕ) → k < length trace → runEventAt (getD trace k 0) (countOf image) k (runStateOf k) ≡ runStateOf (suc k)
+      unfolding runEventAt runTrace withAnswer busStep busStepAt
       event-is k h =
           let byte = getD trace k 0 in
           let es = ran k .devices in
@@ -300,21 +383,44 @@ module _ (image : List ℕ) (known : Known image) where
           let ranged′ = run-in (take k trace) ds ranged in
           let level = levelOf (eventOf byte) es in
           let after = map (nextDevice (eventOf byte) level) es in
-          ap (λ (b : Bool). runState (turns byte b (countOf image) (busStateOf es) .image) (set (ran k .answers ++ drop k answers) k (levelByte b)) (turns byte b (countOf image) (busStateOf es) .lines)) (level-is es stand′ all′ ranged′ byte)
-          ∙ ap (λ (s : BusState). runState (s .image) (set (ran k .answers ++ drop k answers) k (levelByte level)) (s .lines)) (ap (λ (m : ℕ). turns byte level m (busStateOf es)) (sym all′) ∙ turned-is es stand′ all′ ranged′ byte level)
+          ap (λ (b : Bool). runState (turnsUpTo byte b (countOf image) (busStateOf es) .image) (set (ran k .answers ++ drop k answers) k (levelByte b)) (turnsUpTo byte b (countOf image) (busStateOf es) .lines)) (level-is es stand′ all′ ranged′ byte)
+          ∙ ap (λ (s : BusState). runState (s .image) (set (ran k .answers ++ drop k answers) k (levelByte level)) (s .lines)) (ap (λ (m : ℕ). turnsUpTo byte level m (busStateOf es)) (sym all′) ∙ turned-is es stand′ all′ ranged′ byte level)
           ∙ ap (λ (l : List ℕ). runState (imageOf after) l (linesOf after)) (answers-put k (levelByte level) h)
           ∙ ap (λ (r : Run). runState (imageOf (r .devices)) (r .answers ++ drop (suc k) answers) (linesOf (r .devices))) (sym (run-next k h))
 
-      events-are : (k : ℕ) → k ≤ length trace → events trace (countOf image) k (runState (imageOf ds) answers (linesOf ds)) ≡ runStateOf k
-      unfolding events runTrace
+      pub events-are : (k : ℕ) → k ≤ length trace → runEventsUpTo trace (countOf image) k (runState (imageOf ds) answers (linesOf ds)) ≡ runStateOf k
+      unfolding runEventsUpTo runTrace
       events-are zero h = refl
-      events-are (suc k) h = ap (eventAt (getD trace k 0) (countOf image) k) (events-are k (omega arith)) ∙ event-is k h
+      events-are (suc k) h = ap (runEventAt (getD trace k 0) (countOf image) k) (events-are k (omega arith)) ∙ event-is k h
 
-      pub run-is : events trace (countOf image) (length trace) (runState (imageOf ds) answers (linesOf ds))
+      pub run-is : runEventsUpTo trace (countOf image) (length trace) (runState (imageOf ds) answers (linesOf ds))
           ≡ runState (imageOf (runTrace trace ds .devices)) (runTrace trace ds .answers ++ drop (length trace) answers) (linesOf (runTrace trace ds .devices))
       run-is =
           events-are (length trace) (omega arith)
           ∙ ap (λ (t : List ℕ). runState (imageOf (runTrace t ds .devices)) (runTrace t ds .answers ++ drop (length trace) answers) (linesOf (runTrace t ds .devices))) (take-length trace)
+
+      -- the bytes that they copy, where the trace is no longer than a run takes
+      pub events-copied : length trace ≤ 32768 → (k : ℕ) → k ≤ length trace
+          → copiedByEvents trace (countOf image) k (runState (imageOf ds) answers (linesOf ds)) ≡ copiedInTrace (take k trace) ds
+      unfolding copiedByEvents copiedInTrace
+      events-copied short zero h = refl
+      events-copied short (suc k) h =
+          let byte = getD trace k 0 in
+          let es = ran k .devices in
+          let same = run-same (take k trace) ds in
+          let all′ : length es ≡ countOf image = same-length same ∙ all in
+          let bytes = copiedByAll (eventOf byte) (levelOf (eventOf byte) es) es in
+          let few : copiedInTrace (take k trace) ds ≤ 2048 * k =
+          subst (λ (m : ℕ). copiedInTrace (take k trace) ds ≤ 2048 * m) (length-take-le k trace (omega arith))
+          (copied-most (take k trace) ds (omega (arith, all, known .few))) in
+          ap (λ (s : RunState). addedTo (copiedByEvents trace (countOf image) k (runState (imageOf ds) answers (linesOf ds)))
+          (copiedOn (countOf image) byte (busState (s .image) (s .lines)))) (events-are k (omega arith))
+          ∙ (λ j. addedTo (events-copied short k (omega arith) j)
+          (event-copied es (stand-same image 0 same stand) all′ (run-in (take k trace) ds ranged) byte j))
+          ∙ added-fits (copiedInTrace (take k trace) ds) bytes
+          (omega (arith, few, all-copied-most (eventOf byte) (levelOf (eventOf byte) es) es, all′, known .few, short, h))
+          ∙ sym (ap (λ (t : List ℕ). copiedInTrace t ds) (take-suc trace k 0 h) ∙ copied-append (take k trace) (byte ∷ []) ds
+          ∙ ap (λ (m : ℕ). copiedInTrace (take k trace) ds + m) (copied-once byte es))
 
   -- ---- the devices at the start of a run
   waiting-stand : (i : ℕ) (states : List LineState) → i + length states ≡ countOf image → Stand image i (devicesFrom image i states)
@@ -322,7 +428,7 @@ module _ (image : List ℕ) (known : Known image) where
   waiting-stand i [] e = tt
   waiting-stand i (state ∷ states) e =
       let h : i < countOf image = omega arith in
-      (record { kind = refl; size = body-length image known i h; code = body-code image known i h }, waiting-stand (suc i) states (omega arith))
+      (record { kind = refl; size = body-length image known i h; code = body-code image known i h; flat = λ _. refl }, waiting-stand (suc i) states (omega arith))
 
   waiting-range : (i n : ℕ) → i + n ≡ countOf image → AllIn (devicesFrom image i (replicate n waitingState))
   unfolding devicesFrom
@@ -377,8 +483,8 @@ module _ (image : List ℕ) (known : Known image) where
 
 -- ---- the run
 
-pub filled-is : (i : ℕ) (state : LineState) (lines : List LineState) → i ≤ length lines → filled i state lines ≡ replicate i state ++ drop i lines
-unfolding filled
+pub filled-is : (i : ℕ) (state : LineState) (lines : List LineState) → i ≤ length lines → filledUpTo i state lines ≡ replicate i state ++ drop i lines
+unfolding filledUpTo
 filled-is zero state lines h = refl
 filled-is (suc i) state lines h =
     ap (λ (l : List LineState). set l i state) (filled-is i state lines (omega arith) ∙ ap (λ (l : List LineState). replicate i state ++ l) (drop-cons lines i state h))
@@ -389,11 +495,16 @@ filled-is (suc i) state lines h =
 -- what the loops make of image, answers and line states
 abbrev pub ends : List ℕ → List ℕ → List ℕ → List LineState → RunState
 ends trace image answers lines =
-    events trace (countOf image) (length trace) (runState image answers (filled (countOf image) waitingState lines))
+    runEventsUpTo trace (countOf image) (length trace) (runState image answers (filledUpTo (countOf image) waitingState lines))
 
--- is what the run is to leave, where it is not refused
+-- and the bytes that they copy
+abbrev pub copied-in-all : List ℕ → List ℕ → List ℕ → List LineState → ℕ
+copied-in-all trace image answers lines =
+    copiedByEvents trace (countOf image) (length trace) (runState image answers (filledUpTo (countOf image) waitingState lines))
+
+-- is what the run is to answer and leave, where it is not refused
 pub run-shown : (trace image answers : List ℕ) (lines : List LineState) → runRefusal image trace (length answers) (length lines) ≡ 0
-    → runOutcome 0 (ends trace image answers lines .image) (ends trace image answers lines .answers) (ends trace image answers lines .lines) ≡ runOf image trace answers lines
+    → runOutcome (runResult 0 (copied-in-all trace image answers lines)) (ends trace image answers lines .image) (ends trace image answers lines .answers) (ends trace image answers lines .lines) ≡ runOf image trace answers lines
 unfolding runOf runAt leftByRun
 run-shown trace image answers lines e =
     let has = admitted image trace (length answers) (length lines) e in
@@ -401,47 +512,60 @@ run-shown trace image answers lines e =
     let n = countOf image in
     let tail = drop n lines in
     let ds = waitingDevices image in
-    let began : filled n waitingState lines ≡ statesOf ds ++ tail = filled-is n waitingState lines (has .lines-room) ∙ ap (λ (l : List LineState). l ++ tail) (sym (waiting-states image known)) in
+    let began : filledUpTo n waitingState lines ≡ statesOf ds ++ tail = filled-is n waitingState lines (has .lines-room) ∙ ap (λ (l : List LineState). l ++ tail) (sym (waiting-states image known)) in
+    let start : runState image answers (filledUpTo n waitingState lines) ≡ runState (imageOf image known ds) answers (statesOf ds ++ tail) =
+    (λ i. runState (sym (waiting-image image known) i) answers (began i)) in
     let ended : ends trace image answers lines ≡ runState (tableOfContents image ++ bodiesOf (runTrace trace ds .devices)) (runTrace trace ds .answers ++ drop (length trace) answers) (statesOf (runTrace trace ds .devices) ++ tail) =
-    ap (λ (l : List LineState). events trace n (length trace) (runState image answers l)) began
-    ∙ ap (λ (l : List ℕ). events trace n (length trace) (runState l answers (statesOf ds ++ tail))) (sym (waiting-image image known))
+    ap (runEventsUpTo trace n (length trace)) start
     ∙ run-is image known tail trace answers (has .answers-room) ds (waiting-stands image known) (waiting-all image known) (waiting-in image known) in
-    ap (λ (s : RunState). runOutcome 0 (s .image) (s .answers) (s .lines)) ended
+    let copied : copied-in-all trace image answers lines ≡ copiedInTrace trace ds =
+    ap (copiedByEvents trace n (length trace)) start
+    ∙ events-copied image known tail trace answers (has .answers-room) ds (waiting-stands image known) (waiting-all image known) (waiting-in image known)
+    (short-trace trace (has .trace-good)) (length trace) (omega arith)
+    ∙ ap (λ (t : List ℕ). copiedInTrace t ds) (take-length trace) in
+    (λ i. runOutcome (runResult 0 (copied i)) (ended i .image) (ended i .answers) (ended i .lines))
     ∙ ap (λ (m : ℕ). runAt m image trace answers lines) (sym e)
 
--- what is refused changes nothing
-refused-at : (m : ℕ) (trace image answers : List ℕ) (lines : List LineState) → T (not (eqb m 0)) → runOutcome m image answers lines ≡ runAt m image trace answers lines
+-- what is refused changes nothing, and copies nothing
+refused-at : (m : ℕ) (trace image answers : List ℕ) (lines : List LineState) → T (not (eqb m 0)) → runOutcome (runResult m 0) image answers lines ≡ runAt m image trace answers lines
 unfolding runAt
 refused-at zero trace image answers lines t = absurd t
 refused-at (suc m) trace image answers lines t = refl
 
 pub run-refused : (trace image answers : List ℕ) (lines : List LineState) → T (not (eqb (runRefusal image trace (length answers) (length lines)) 0))
-    → runOutcome (runRefusal image trace (length answers) (length lines)) image answers lines ≡ runOf image trace answers lines
+    → runOutcome (runResult (runRefusal image trace (length answers) (length lines)) 0) image answers lines ≡ runOf image trace answers lines
 unfolding runOf
 run-refused trace image answers lines t = refused-at (runRefusal image trace (length answers) (length lines)) trace image answers lines t
 
 -- what a run left, as one equation and as an equation for each thing
-pub run-leaves : (left : RunOutcome) (number : ℕ) (image answers : List ℕ) (lines : List LineState)
-    → runOutcome number image answers lines ≡ left → RunLeaves left number image answers lines
-run-leaves left number image answers lines e =
+pub run-leaves : (left : RunOutcome) (result : RunResult) (image answers : List ℕ) (lines : List LineState)
+    → runOutcome result image answers lines ≡ left → RunLeaves left result image answers lines
+run-leaves left result image answers lines e =
     record {
-      number-is = ap (λ (o : RunOutcome). o .number) e;
+      result-is = ap (λ (o : RunOutcome). o .result) e;
       image-is = ap (λ (o : RunOutcome). o .image) e;
       answers-are = ap (λ (o : RunOutcome). o .answers) e;
       lines-are = ap (λ (o : RunOutcome). o .lines) e;
     }
 
-pub left-is : (left : RunOutcome) (number : ℕ) (image answers : List ℕ) (lines : List LineState)
-    → RunLeaves left number image answers lines → runOutcome number image answers lines ≡ left
-left-is left number image answers lines l = λ i. runOutcome (l .number-is i) (l .image-is i) (l .answers-are i) (l .lines-are i)
+pub left-is : (left : RunOutcome) (result : RunResult) (image answers : List ℕ) (lines : List LineState)
+    → RunLeaves left result image answers lines → runOutcome result image answers lines ≡ left
+left-is left result image answers lines l = λ i. runOutcome (l .result-is i) (l .image-is i) (l .answers-are i) (l .lines-are i)
 
--- the empty trace: no refusal, no answers, the image unchanged, the first n line states waiting
+-- the empty trace: no refusal, no answers, the image unchanged, no byte copied, the first n line states waiting
 pub empty-run : (image answers : List ℕ) (lines : List LineState) → imageRefusal image ≡ 0 → countOf image ≤ length lines
-    → runOf image [] answers lines ≡ runOutcome 0 image answers (replicate (countOf image) waitingState ++ drop (countOf image) lines)
-unfolding runOf runAt leftByRun runTrace badTrace badPulse someByte
+    → runOf image [] answers lines ≡ runOutcome (runResult 0 0) image answers (replicate (countOf image) waitingState ++ drop (countOf image) lines)
+unfolding runOf runAt leftByRun runTrace copiedInTrace badTrace noFirstReset badPulse someByte
 empty-run image answers lines e room =
     let known = accepted-known image e in
-    let zero′ = not-refused image [] (length answers) (length lines) (record { image-accepted = e; trace-good = refl; pulses-good = refl; answers-room = omega arith; lines-room = room }) in
+    let zero′ = not-refused image [] (length answers) (length lines) (record {
+      image-accepted = e;
+      trace-good = refl;
+      reset-first = refl;
+      pulses-good = refl;
+      answers-room = omega arith;
+      lines-room = room;
+    }) in
     ap (λ (m : ℕ). runAt m image [] answers lines) zero′
-    ∙ ap (λ (l : List ℕ). runOutcome 0 l answers (statesOf (waitingDevices image) ++ drop (countOf image) lines)) (waiting-image image known)
-    ∙ ap (λ (l : List LineState). runOutcome 0 image answers (l ++ drop (countOf image) lines)) (waiting-states image known)
+    ∙ ap (λ (l : List ℕ). runOutcome (runResult 0 0) l answers (statesOf (waitingDevices image) ++ drop (countOf image) lines)) (waiting-image image known)
+    ∙ ap (λ (l : List LineState). runOutcome (runResult 0 0) image answers (l ++ drop (countOf image) lines)) (waiting-states image known)

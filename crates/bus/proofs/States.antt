@@ -1,4 +1,4 @@
--- The loops of `step_all`: the line states after the turns of the first i devices, and that they are those that `statesAfter` names.
+-- The loops of `step_all`: the line states after the turns of the first i devices, and that they are those that `turnStatesOf` names.
 -- Assumes nothing.
 use Prim.Native.Nat.{ℕ, zero, suc, _+_, _≤_}
 use mathlib.Core.Path.{_≡_, refl, sym, ap, _∙_}
@@ -11,7 +11,7 @@ use lib.Dec.{ltb}
 use borrow.Author.Tests.{ltb-false}
 use Rattle.device.specs.declared.LineState.{LineState}
 use Rattle.device.specs.Device.{waitingState}
-use Rattle.bus.specs.Loops.{turnState, turnedFrom, lineAt, fewerOf, statesAfter}
+use Rattle.bus.specs.Loops.{turnState, turnStatesFrom, lineAt, fewerOf, turnStatesOf}
 use Rattle.bus.proofs.Laws.{fewer-second}
 use Rattle.bus.proofs.Levels.{fewer-take}
 
@@ -27,17 +27,17 @@ module _ (image : List ℕ) (byte : ℕ) (level : Bool) where
   steps-length (suc i) lines = length-set (steps i lines) i _ ∙ steps-length i lines
 
   abbrev turned : ℕ → List LineState → List LineState
-  turned j states = turnedFrom image j states byte level
+  turned j states = turnStatesFrom image j states byte level
 
   turned-length : (j : ℕ) (states : List LineState) → length (turned j states) ≡ length states
-  unfolding turnedFrom
+  unfolding turnStatesFrom
   turned-length j [] = refl
   turned-length j (s ∷ states) = ap suc (turned-length (suc j) states)
 
   -- the turn of one more
   turned-more : (j : ℕ) (states : List LineState) (state : LineState)
       → turned j (states ++ state ∷ []) ≡ turned j states ++ turnState image (j + length states) state byte level ∷ []
-  unfolding turnedFrom
+  unfolding turnStatesFrom
   turned-more j [] state =
       let e : j ≡ j + 0 = omega arith in
       ap (λ (k : ℕ). turnState image k state byte level ∷ []) e
@@ -46,8 +46,8 @@ module _ (image : List ℕ) (byte : ℕ) (level : Bool) where
       ap (λ (l : List LineState). turnState image j s byte level ∷ l)
       (turned-more (suc j) states state ∙ ap (λ (k : ℕ). turned (suc j) states ++ turnState image k state byte level ∷ []) e)
 
-  pub steps-upto : (i : ℕ) (lines : List LineState) → i ≤ length lines → steps i lines ≡ statesAfter image lines i byte level
-  unfolding steps turnedFrom statesAfter
+  pub steps-upto : (i : ℕ) (lines : List LineState) → i ≤ length lines → steps i lines ≡ turnStatesOf image lines i byte level
+  unfolding steps turnStatesFrom turnStatesOf
   steps-upto zero lines h = refl
   steps-upto (suc i) lines h =
       let state = lineAt lines i in
@@ -76,15 +76,15 @@ fewer-drop lines n false e = drop-length lines ∙ sym (drop-of-length-le lines 
 
 -- as many line states are lent, or fewer
 pub states-fewer : (image : List ℕ) (lines : List LineState) (n byte : ℕ) (level : Bool)
-    → statesAfter image lines (fewerOf n (length lines)) byte level ≡ statesAfter image lines n byte level
-unfolding statesAfter fewerOf
+    → turnStatesOf image lines (fewerOf n (length lines)) byte level ≡ turnStatesOf image lines n byte level
+unfolding turnStatesOf fewerOf
 states-fewer image lines n byte level =
     let b = ltb n (length lines) in
-    ap (λ (l : List LineState). turnedFrom image 0 l byte level ++ drop (fewerOf n (length lines)) lines) (fewer-take lines n b refl)
-    ∙ ap (λ (l : List LineState). turnedFrom image 0 (take n lines) byte level ++ l) (fewer-drop lines n b refl)
+    ap (λ (l : List LineState). turnStatesFrom image 0 l byte level ++ drop (fewerOf n (length lines)) lines) (fewer-take lines n b refl)
+    ∙ ap (λ (l : List LineState). turnStatesFrom image 0 (take n lines) byte level ++ l) (fewer-drop lines n b refl)
 
 -- there are as many as before
-pub states-length : (image : List ℕ) (lines : List LineState) (n byte : ℕ) (level : Bool) → length (statesAfter image lines n byte level) ≡ length lines
+pub states-length : (image : List ℕ) (lines : List LineState) (n byte : ℕ) (level : Bool) → length (turnStatesOf image lines n byte level) ≡ length lines
 states-length image lines n byte level =
     let m = fewerOf n (length lines) in
     sym (ap length (steps-upto image byte level m lines (fewer-second n (length lines)) ∙ states-fewer image lines n byte level)) ∙ steps-length image byte level m lines

@@ -1,5 +1,6 @@
--- Not from document 01: what the functions of `src/` below `run` do, for any image and any line states, each loop's state by recursion on how many turns it has
--- made. Where the image is not refused and there is room this is what `Bus.antt` and `Run.antt` say (`proofs/Shown.antt`).
+-- Nothing here is from document 01. These definitions say what the functions of `src/` below `run` do, for any image
+-- and any line states, with each loop's state by recursion on how many turns it has made. Where the image is not
+-- refused and there is room, this is what `Bus.antt` and `Run.antt` say (`proofs/Shown.antt`).
 use Prim.Native.Nat.{ℕ, zero, suc, _+_, _-_}
 use mathlib.Core.Bool.{Bool, true, false, cond, _&&_}
 use mathlib.Core.List.{List, [], _∷_, _++_, map}
@@ -10,80 +11,126 @@ use Rattle.kind.specs.declared.Kind.the-variants.{Unknown}
 use Rattle.kind.specs.Kind.{bodySize}
 use Rattle.image.specs.Image.{countOf, kindAt, offsetAt}
 use Rattle.device.specs.declared.LineState.{LineState}
-use Rattle.device.specs.Device.{waitingState, resetState, waits, sendsAsIs, stateAsIs, bodyAsIs, resetAsIs, pulseAsIs, programAsIs}
+use Rattle.device.specs.Device.{waitingState, resetState, waits, sendsAsIs, stateAfterSlotAsIs, bodyAfterSlotAsIs}
+use Rattle.device.specs.Device.{bodyAfterResetAsIs, stateAfterPulseAsIs, bodyAfterPulseAsIs, bytesInSlotAsIs}
 use Rattle.bus.specs.declared.Event.{Event}
 use Rattle.bus.specs.declared.Event.the-variants.{Slot, Reset, Pulse}
 use Rattle.bus.specs.declared.Place.{Place}
+use Rattle.bus.specs.declared.Scan.{Scan}
+use Rattle.bus.specs.declared.SlotTurn.{SlotTurn}
+use Rattle.bus.specs.declared.EventResult.{EventResult}
 use Rattle.bus.specs.Bus.{Device, deviceWith, eventOf}
 
--- ---- one device, its line state taken as it is
+-- ---- one device, without a test of its line state's range
 
--- what an event at a level makes of its line state and of its body
-unfoldable pub stateAsItIs : Event → Bool → Device → LineState
-stateAsItIs (Slot sent) level d = stateAsIs (d .state) (d .kind) (d .body) level
-stateAsItIs Reset level d = resetState
-stateAsItIs Pulse level d = pulseAsIs (d .state) (d .body)
+-- An event at a level leaves a device in this line state, which is not tested for its range, and with this body.
+unfoldable pub nextStateAsIs : Event → Bool → Device → LineState
+nextStateAsIs (Slot sent) level d = stateAfterSlotAsIs (d .state) (d .kind) (d .body) level
+nextStateAsIs Reset level d = resetState
+nextStateAsIs Pulse level d = stateAfterPulseAsIs (d .state) (d .body)
 
-unfoldable pub bodyAsItIs : Event → Bool → Device → List ℕ
-bodyAsItIs (Slot sent) level d = bodyAsIs (d .state) (d .kind) (d .body) level
-bodyAsItIs Reset level d = resetAsIs (d .state) (d .body)
-bodyAsItIs Pulse level d = programAsIs (d .state) (d .body)
+unfoldable pub nextBodyAsIs : Event → Bool → Device → List ℕ
+nextBodyAsIs (Slot sent) level d = bodyAfterSlotAsIs (d .state) (d .kind) (d .body) level
+nextBodyAsIs Reset level d = bodyAfterResetAsIs (d .state) (d .body)
+nextBodyAsIs Pulse level d = bodyAfterPulseAsIs (d .state) (d .body)
 
--- a device that waits is passed over in a slot
-unfoldable pub idleIn : ℕ → LineState → Bool
-idleIn byte state = ltb byte 2 && waits state
+unfoldable pub copiedAsIs : Event → Bool → Device → ℕ
+copiedAsIs (Slot sent) level d = bytesInSlotAsIs (d .state) (d .kind) (d .body) level
+copiedAsIs Reset level d = 0
+copiedAsIs Pulse level d = 0
 
--- where the body of device i lies, and its kind. A device that the image does not have, or has no room for, has an empty body and no kind
+-- A device that waits is passed over in a slot.
+unfoldable pub passedOver : ℕ → LineState → Bool
+passedOver byte state = ltb byte 2 && waits state
+
+-- The place of device i is its kind and where its body lies in the image. A device that the image does not have, or has
+-- no room for, has an empty body and no kind.
 unfoldable pub placeIn : List ℕ → ℕ → Place
 placeIn image i =
     cond (ltb i (countOf image) && leb (offsetAt image i + bodySize (kindAt image i)) (length image))
     (record { kind = kindAt image i; start = offsetAt image i; end = offsetAt image i + bodySize (kindAt image i) })
     (record { kind = Unknown; start = 0; end = 0 })
 
-unfoldable pub deviceAt : List ℕ → Place → LineState → Device
-deviceAt image place state = deviceWith (place .kind) (take (place .end - place .start) (drop (place .start) image)) state
+unfoldable pub deviceAtPlace : List ℕ → Place → LineState → Device
+deviceAtPlace image place state =
+    deviceWith (place .kind) (take (place .end - place .start) (drop (place .start) image)) state
 
 unfoldable pub deviceIn : List ℕ → ℕ → LineState → Device
-deviceIn image i state = deviceAt image (placeIn image i) state
+deviceIn image i state = deviceAtPlace image (placeIn image i) state
 
--- the image with another body at a place
-unfoldable pub withBody : List ℕ → Place → List ℕ → List ℕ
-withBody image place body = take (place .start) image ++ (body ++ drop (place .end) image)
+-- A new body at a place leaves the rest of the image as it was.
+unfoldable pub imageWithBody : List ℕ → Place → List ℕ → List ℕ
+imageWithBody image place body = take (place .start) image ++ (body ++ drop (place .end) image)
 
--- a device's turn in an event at a level
+-- In an event at a level, the turn of device i leaves this line state and this image.
 unfoldable pub turnState : List ℕ → ℕ → LineState → ℕ → Bool → LineState
-turnState image i state byte level = cond (idleIn byte state) state (stateAsItIs (eventOf byte) level (deviceIn image i state))
+turnState image i state byte level =
+    cond (passedOver byte state) state (nextStateAsIs (eventOf byte) level (deviceIn image i state))
 
 unfoldable pub turnImage : List ℕ → ℕ → LineState → ℕ → Bool → List ℕ
 turnImage image i state byte level =
-    cond (idleIn byte state) image (withBody image (placeIn image i) (bodyAsItIs (eventOf byte) level (deviceIn image i state)))
+    cond (passedOver byte state) image
+    (imageWithBody image (placeIn image i) (nextBodyAsIs (eventOf byte) level (deviceIn image i state)))
+
+-- The turn of device i copies so many bytes, and a slot's turn answers its line state with that number.
+unfoldable pub turnCopied : List ℕ → ℕ → LineState → ℕ → Bool → ℕ
+turnCopied image i state byte level =
+    cond (passedOver byte state) 0 (copiedAsIs (eventOf byte) level (deviceIn image i state))
+
+abbrev pub slotTurn : LineState → ℕ → SlotTurn
+slotTurn next copied = record { next = next; copied = copied }
+
+-- A sum stays at the largest number that it can be, where it would pass it.
+abbrev pub mostCopied : ℕ
+mostCopied = 18446744073709551615
+
+unfoldable pub addedTo : ℕ → ℕ → ℕ
+addedTo sum bytes = cond (ltb (mostCopied - sum) bytes) mostCopied (sum + bytes)
 
 -- ---- the level of an event
 
--- all of these line states leave the line high in a slot
+-- The line stays high in a slot if each of these line states sends a 1.
 unfoldable pub allHigh : List LineState → Bool
 allHigh [] = true
 allHigh (state ∷ states) = sendsAsIs state && allHigh states
 
--- nothing is there to answer a reset
+-- A reset finds no presence if there is no line state, and so no device.
 unfoldable pub nothingThere : List LineState → Bool
 nothingThere [] = true
 nothingThere (state ∷ states) = false
 
-unfoldable pub levelAsItIs : Event → List LineState → Bool
-levelAsItIs (Slot sent) states = sent && allHigh states
-levelAsItIs Reset states = nothingThere states
-levelAsItIs Pulse states = true
+unfoldable pub levelAsIs : Event → List LineState → Bool
+levelAsIs (Slot sent) states = sent && allHigh states
+levelAsIs Reset states = nothingThere states
+levelAsIs Pulse states = true
 
--- of the first n devices, fewer where fewer line states are lent
+-- The level of an event is that of the first n devices, or of fewer where fewer line states are lent.
 unfoldable pub levelOn : List LineState → ℕ → ℕ → Bool
-levelOn lines n byte = levelAsItIs (eventOf byte) (take n lines)
+levelOn lines n byte = levelAsIs (eventOf byte) (take n lines)
 
--- the smaller of two numbers
+-- A slot's level looks at the line states up to and including the first that pulls the line low.
+unfoldable pub upToLow : List LineState → ℕ
+upToLow [] = 0
+upToLow (state ∷ states) = suc (cond (sendsAsIs state) (upToLow states) 0)
+
+unfoldable pub lookedAsIs : Event → List LineState → ℕ
+lookedAsIs (Slot sent) states = cond sent (upToLow states) 0
+lookedAsIs Reset states = 0
+lookedAsIs Pulse states = 0
+
+unfoldable pub lookedOn : List LineState → ℕ → ℕ → ℕ
+lookedOn lines n byte = lookedAsIs (eventOf byte) (take n lines)
+
+-- A scan is the level of an event together with the number of devices that were looked at for it.
+unfoldable pub scanOn : List LineState → ℕ → ℕ → Scan
+scanOn lines n byte = record { level = levelOn lines n byte; looked = lookedOn lines n byte }
+
+-- This is the smaller of two numbers.
 unfoldable pub fewerOf : ℕ → ℕ → ℕ
 fewerOf a b = cond (ltb a b) a b
 
--- how many of n devices are asked, and the level where these leave the line high or not
+-- All of n devices are asked in a slot in which the master sends 1, and none in any other event. Where `high` tells
+-- whether those that were asked leave the line high, the level of the event is `levelWhere`.
 unfoldable pub askedOf : ℕ → ℕ → ℕ
 askedOf byte n = cond (eqb byte 1) n 0
 
@@ -92,13 +139,21 @@ levelWhere (Slot sent) n high = sent && high
 levelWhere Reset n high = eqb n 0
 levelWhere Pulse n high = true
 
+-- The scan of a slot goes on until a device pulls low or the last has been asked.
+unfoldable pub goesOnAt : Bool → ℕ → ℕ → Bool
+goesOnAt high looked asked = high && ltb looked asked
+
+unfoldable pub scanWhere : Event → ℕ → Bool → ℕ → Scan
+scanWhere event n high looked = record { level = levelWhere event n high; looked = looked }
+
 -- ---- the turns of all devices
 
--- a line state that a slice does not have is waiting
+-- A line state that a slice does not have is waiting.
 abbrev pub lineAt : List LineState → ℕ → LineState
 lineAt lines i = getD lines i waitingState
 
--- image and line states after a turn of device i, and after the turns of the first i devices
+-- Image and line states change together: `turnAt` is the turn of device i, `turnsUpTo` the turns of the first i
+-- devices.
 pub record BusState : Type 0 where
   pub image : List ℕ
   pub lines : List LineState
@@ -112,29 +167,49 @@ turnAt byte level i s =
     (turnImage (s .image) i (lineAt (s .lines) i) byte level)
     (set (s .lines) i (turnState (s .image) i (lineAt (s .lines) i) byte level))
 
-unfoldable pub turns : ℕ → Bool → ℕ → BusState → BusState
-turns byte level zero s = s
-turns byte level (suc i) s = turnAt byte level i (turns byte level i s)
+unfoldable pub turnsUpTo : ℕ → Bool → ℕ → BusState → BusState
+turnsUpTo byte level zero s = s
+turnsUpTo byte level (suc i) s = turnAt byte level i (turnsUpTo byte level i s)
 
--- the first i line states set to one state
-unfoldable pub filled : ℕ → LineState → List LineState → List LineState
-filled zero state lines = lines
-filled (suc i) state lines = set (filled i state lines) i state
+-- An event is given to the first n devices, or to fewer where fewer line states are lent; each is given its level.
+unfoldable pub stepOn : ℕ → ℕ → BusState → BusState
+stepOn n byte s = turnsUpTo byte (levelOn (s .lines) n byte) (fewerOf n (length (s .lines))) s
+
+-- The turns of the first i devices copy so many bytes, and so many are copied in an event that they are given.
+unfoldable pub copiedUpTo : ℕ → Bool → ℕ → BusState → ℕ
+copiedUpTo byte level zero s = 0
+copiedUpTo byte level (suc i) s =
+    let before = turnsUpTo byte level i s in
+    addedTo (copiedUpTo byte level i s) (turnCopied (before .image) i (lineAt (before .lines) i) byte level)
+
+unfoldable pub copiedOn : ℕ → ℕ → BusState → ℕ
+copiedOn n byte s = copiedUpTo byte (levelOn (s .lines) n byte) (fewerOf n (length (s .lines))) s
+
+-- The result of an event is its scan, with the number of bytes copied in it.
+abbrev pub eventResult : Scan → ℕ → EventResult
+eventResult scan copied = record { level = scan .level; looked = scan .looked; copied = copied }
+
+-- The first i line states are set to one state, and the others stay as they were.
+unfoldable pub filledUpTo : ℕ → LineState → List LineState → List LineState
+filledUpTo zero state lines = lines
+filledUpTo (suc i) state lines = set (filledUpTo i state lines) i state
 
 -- ---- the line states alone, where the image is only read
 
--- those of the devices from entry i on, after an event at a level
-unfoldable pub turnedFrom : List ℕ → ℕ → List LineState → ℕ → Bool → List LineState
-turnedFrom image i [] byte level = []
-turnedFrom image i (state ∷ states) byte level = turnState image i state byte level ∷ turnedFrom image (suc i) states byte level
+-- These are the line states of the devices from entry i on, after an event at a level.
+unfoldable pub turnStatesFrom : List ℕ → ℕ → List LineState → ℕ → Bool → List LineState
+turnStatesFrom image i [] byte level = []
+turnStatesFrom image i (state ∷ states) byte level =
+    turnState image i state byte level ∷ turnStatesFrom image (suc i) states byte level
 
--- of the first n devices; those past them stay as they were
-unfoldable pub statesAfter : List ℕ → List LineState → ℕ → ℕ → Bool → List LineState
-statesAfter image lines n byte level = turnedFrom image 0 (take n lines) byte level ++ drop n lines
+-- The line states of the first n devices change in an event at a level; those past them stay as they were.
+unfoldable pub turnStatesOf : List ℕ → List LineState → ℕ → ℕ → Bool → List LineState
+turnStatesOf image lines n byte level = turnStatesFrom image 0 (take n lines) byte level ++ drop n lines
 
 -- ---- a trace
 
--- what event k of a trace makes of the image, the answers and the line states of n devices, and what the first k events do
+-- Image, answers and line states change together: `runEventAt` is event k of a trace on n devices, and `runEventsUpTo`
+-- are the first k events.
 pub record RunState : Type 0 where
   pub image : List ℕ
   pub answers : List ℕ
@@ -143,12 +218,19 @@ pub record RunState : Type 0 where
 abbrev pub runState : List ℕ → List ℕ → List LineState → RunState
 runState image answers lines = record { image = image; answers = answers; lines = lines }
 
-unfoldable pub eventAt : ℕ → ℕ → ℕ → RunState → RunState
-eventAt byte n k s =
+unfoldable pub runEventAt : ℕ → ℕ → ℕ → RunState → RunState
+runEventAt byte n k s =
     let level = levelOn (s .lines) n byte in
-    let after = turns byte level n (busState (s .image) (s .lines)) in
+    let after = turnsUpTo byte level n (busState (s .image) (s .lines)) in
     runState (after .image) (set (s .answers) k (levelByte level)) (after .lines)
 
-unfoldable pub events : List ℕ → ℕ → ℕ → RunState → RunState
-events trace n zero s = s
-events trace n (suc k) s = eventAt (getD trace k 0) n k (events trace n k s)
+unfoldable pub runEventsUpTo : List ℕ → ℕ → ℕ → RunState → RunState
+runEventsUpTo trace n zero s = s
+runEventsUpTo trace n (suc k) s = runEventAt (getD trace k 0) n k (runEventsUpTo trace n k s)
+
+-- The first k events copy so many bytes.
+unfoldable pub copiedByEvents : List ℕ → ℕ → ℕ → RunState → ℕ
+copiedByEvents trace n zero s = 0
+copiedByEvents trace n (suc k) s =
+    let before = runEventsUpTo trace n k s in
+    addedTo (copiedByEvents trace n k s) (copiedOn n (getD trace k 0) (busState (before .image) (before .lines)))

@@ -1,46 +1,80 @@
-// All devices on the line: the level of an event, which every device is given, and the run of a trace.
+// This crate is all devices on the line: the level of an event, which every device is given, and the run of a trace.
 //
-// The image holds the devices' bodies, and a lent slice their line states. One device's part in an event is a function
-// by value over the image and its line state; the loops over all devices, over the trace, and the run above them only
-// fetch, call and store.
+// The image holds the devices' bodies, and a lent slice holds their line states. One device's part in an event is a
+// function by value over the image and its line state; the loops over all devices, over the trace, and the run above
+// them only fetch, call and store.
 use device::LineState;
 use image::ACCEPTED;
 use kind::Kind;
 ghost use mathlib.Core.Path.{_≡_};
 ghost use Prim.Native.Nat.{_≤_};
-ghost use mathlib.Core.Bool.{true, not, _&&_, _||_};
+ghost use mathlib.Core.Bool.{true, not, _||_};
 ghost use lib.ListN.{length};
 ghost use lib.Dec.{eqb, ltb};
 ghost use Rattle.image.specs.Image.{countOf, kindAt};
 ghost use Rattle.image.specs.Refusal.{someBelow};
 ghost use Rattle.kind.specs.Kind.{isEprom};
 ghost use Rattle.bus.specs.Bus.{eventOf};
-ghost use Rattle.bus.specs.Refusal.{someByte, badTrace, badPulse, noRunRoom, runRefusal};
-ghost use Rattle.bus.specs.Run.{RunLeaves, runOf};
-ghost use Rattle.bus.specs.Loops.{placeIn, askedOf, levelWhere, turnState, turnImage, fewerOf};
-ghost use Rattle.bus.specs.Loops.{levelOn, statesAfter, busState, turns, filled, runState, events};
-ghost use Rattle.device.specs.Device.{waitingState, sendsAsIs};
+ghost use Rattle.bus.specs.Refusal.{someByte, badTrace, noFirstReset, badPulse, noRunRoom};
+ghost use Rattle.bus.specs.Refusal.{runRefusal};
+ghost use Rattle.bus.specs.Run.{RunLeaves, runOf, runResult};
+ghost use Rattle.bus.specs.Loops.{placeIn, askedOf, levelWhere, goesOnAt, scanWhere, turnState, turnImage};
+ghost use Rattle.bus.specs.Loops.{turnCopied, slotTurn, addedTo, copiedUpTo, copiedOn, eventResult};
+ghost use Rattle.bus.specs.Loops.{copiedByEvents};
+ghost use Rattle.bus.specs.Loops.{fewerOf, scanOn, stepOn};
+ghost use Rattle.bus.specs.Loops.{turnStatesOf, busState, turnsUpTo, filledUpTo, runState, runEventsUpTo};
+ghost use Rattle.device.specs.Device.{waitingState};
 
-// An event on the line: a slot in which the master sends a bit, a reset, or a program pulse.
+// An event on the line is a slot in which the master sends a bit, a reset, or a program pulse.
 pub enum Event {
     Slot(bool),
     Reset,
     Pulse,
 }
 
-// A device's kind, and the part of the image that is its body.
+// A place is a device's kind and the part of the image that is its body.
 struct Place {
     kind: Kind,
     start: usize,
     end: usize,
 }
 
-// The longest trace that is run.
+// A scan is the level of an event, and how many devices were looked at for it: in a slot in which the master sends 1,
+// those up to the first that pulls low, in entry order, else none.
+pub struct Scan {
+    pub level: bool,
+    pub looked: usize,
+}
+
+// The part of a device in a slot leaves it in a line state, and copies so many bytes to its memory.
+struct SlotTurn {
+    next: LineState,
+    copied: u64,
+}
+
+// An event has a level, for which so many devices were looked at, and all devices together copy so many bytes in it.
+pub struct EventResult {
+    pub level: bool,
+    pub looked: usize,
+    pub copied: u64,
+}
+
+// A run has a number, which is 0 where it is not refused, and copies so many bytes; one that is refused copies none.
+pub struct RunResult {
+    pub number: u32,
+    pub copied: u64,
+}
+
+// A run refuses a trace that is longer than this.
 const MOST_EVENTS: usize = 32768;
+
+// This is the largest number that a sum of bytes copied can be.
+const MOST_COPIED: u64 = 18446744073709551615;
 
 // ---- one device
 
-// The event that a byte of a trace names: 0 and 1 are slots, 2 is a reset, any other is taken as the program pulse.
+// Each byte of a trace is an event: 0 and 1 are slots, 2 is a reset, and any other counts as the program pulse. A run
+// refuses bytes over 3 before it comes here.
 fn event_of(byte: u8) -> Event
     ensures { λ r. ⌜ r ≡ eventOf byte ⌝ }
 {
@@ -52,8 +86,8 @@ fn event_of(byte: u8) -> Event
     }
 }
 
-// The place of device i, found from its entry: that costs a constant. A device that the image does not have, or has no
-// room for, has an empty body and no kind.
+// The place of device i is found from its entry alone, so that the cost does not depend on i. A device that the image
+// does not have, or has no room for, has an empty body and no kind.
 fn place_of(image: &[u8], i: usize) -> Place
     ensures { λ r. ⌜ r ≡ placeIn (now (image .entry)) i ⌝ }
 {
@@ -73,22 +107,22 @@ fn place_of(image: &[u8], i: usize) -> Place
     }
 }
 
-// How many of n devices are asked for the level of an event: all of them in a slot in which the master sends 1. Any
-// other level does not depend on what they send.
+// All of n devices are asked for the level of a slot in which the master sends 1. The level of any other event does not
+// depend on what they send.
 fn asked(byte: u8, n: usize) -> usize
     ensures { λ r. ⌜ r ≡ askedOf byte n ⌝ }
 {
     if byte == 1 { n } else { 0 }
 }
 
-// Whether the line is high in a slot with one device more on it.
-fn high_with(high: bool, state: LineState) -> bool
-    ensures { λ r. ⌜ r ≡ (high && sendsAsIs state) ⌝ }
+// The scan of a slot goes on until a device pulls low or the last has been asked.
+fn looks_on(high: bool, looked: usize, asked: usize) -> bool
+    ensures { λ r. ⌜ r ≡ goesOnAt high looked asked ⌝ }
 {
-    high & state.sends_as_is()
+    high & (looked < asked)
 }
 
-// The level of an event on n devices; `high` says whether those that were asked leave the line high.
+// This is the level of an event on n devices, where `high` tells whether those that were asked leave the line high.
 fn level_of(byte: u8, n: usize, high: bool) -> bool
     ensures { λ r. ⌜ r ≡ levelWhere (eventOf byte) n high ⌝ }
 {
@@ -99,29 +133,92 @@ fn level_of(byte: u8, n: usize, high: bool) -> bool
     }
 }
 
-// Device i's part in a slot at a level. Inside a transfer a slot only shifts the register, and a device that waits has
-// no part in it: a body is looked for only in the last slot of a transfer. The next line state is worked out before the
-// body changes. A run's line states are in range from the first event on (proofs/Ranges.antt), so that they are taken
-// as they are.
-fn slot(image: &mut [u8], i: usize, state: LineState, level: bool) -> LineState
-    ensures { λ r. ⌜ (r ≡ turnState (now (image .entry)) i state 1 level) × (now (image .exit) ≡ turnImage (now (image .entry)) i state 1 level) ⌝ }
+// A scan is the level of an event, together with the number of devices that were looked at for it.
+fn scan_of(byte: u8, n: usize, high: bool, looked: usize) -> Scan
+    ensures { λ r. ⌜ r ≡ scanWhere (eventOf byte) n high looked ⌝ }
+{
+    let level = level_of(byte, n, high);
+    Scan { level, looked }
+}
+
+// This is device i's part in a slot at a level. Inside a transfer a slot only shifts the register, and a device that
+// waits has no part in it: a body is looked for only in the last slot of a transfer. A run's line states are in range
+// from the first event on (proofs/Ranges.antt), so that no range is tested here.
+fn slot(image: &mut [u8], i: usize, state: LineState, level: bool) -> SlotTurn
+    ensures { λ r. ⌜ (r ≡ slotTurn (turnState (now (image .entry)) i state 1 level)
+        (turnCopied (now (image .entry)) i state 1 level))
+        × (now (image .exit) ≡ turnImage (now (image .entry)) i state 1 level) ⌝ }
 {
     if state.goes_on() {
-        return state.shifted(level);
+        let next = state.shifted(level);
+        return SlotTurn { next, copied: 0 };
     }
     if state.waits() {
-        return state;
+        return SlotTurn {
+            next: state,
+            copied: 0,
+        };
     }
     let place = place_of(image, i);
     let kind = place.kind;
     let start = place.start;
     let end = place.end;
-    let next = state.step_as_is(kind, &image[start..end], level);
-    state.write_as_is(kind, &mut image[start..end], level);
-    next
+    let stepped = state.slot_as_is(kind, &mut image[start..end], level);
+    let next = stepped.next;
+    let copied = stepped.bytes() as u64;
+    SlotTurn { next, copied }
 }
 
-// Device i's line state after a slot at a level; its body is only read.
+// Bytes copied are added to a sum, which stays at the largest number where it would pass it. No run comes near: 64
+// devices copy at most 32 bytes each in each of 32,768 events.
+fn added(sum: u64, bytes: u64) -> u64
+    ensures { λ r. ⌜ r ≡ addedTo sum bytes ⌝ }
+{
+    if MOST_COPIED - sum < bytes {
+        MOST_COPIED
+    } else {
+        sum + bytes
+    }
+}
+
+fn state_after(turn: SlotTurn) -> LineState
+    ensures { λ r. ⌜ r ≡ turn .next ⌝ }
+{
+    turn.next
+}
+
+// The bytes that a device copied in a slot are added to a sum.
+fn add_turn(sum: u64, turn: SlotTurn) -> u64
+    ensures { λ r. ⌜ r ≡ addedTo sum (turn .copied) ⌝ }
+{
+    added(sum, turn.copied)
+}
+
+// The bytes that all devices copied in an event are added to a sum.
+fn add_event(sum: u64, result: EventResult) -> u64
+    ensures { λ r. ⌜ r ≡ addedTo sum (result .copied) ⌝ }
+{
+    added(sum, result.copied)
+}
+
+// The result of an event is its scan, with the number of bytes copied in it.
+fn event_result(scan: Scan, copied: u64) -> EventResult
+    ensures { λ r. ⌜ r ≡ eventResult scan copied ⌝ }
+{
+    EventResult {
+        level: scan.level,
+        looked: scan.looked,
+        copied,
+    }
+}
+
+fn run_result(number: u32, copied: u64) -> RunResult
+    ensures { λ r. ⌜ r ≡ runResult number copied ⌝ }
+{
+    RunResult { number, copied }
+}
+
+// This is device i's line state after a slot at a level, for a search, which only reads the bodies.
 fn read_slot(image: &[u8], i: usize, state: LineState, level: bool) -> LineState
     ensures { λ r. ⌜ r ≡ turnState (now (image .entry)) i state 1 level ⌝ }
 {
@@ -138,10 +235,11 @@ fn read_slot(image: &[u8], i: usize, state: LineState, level: bool) -> LineState
     state.step_as_is(kind, &image[start..end], level)
 }
 
-// Device i's part in an event that is not a slot: its level has no part in it.
+// This is device i's part in an event that is not a slot. No device receives the level of such an event.
 fn turn(image: &mut [u8], i: usize, state: LineState, byte: u8) -> LineState
     requires { ⌜ 2 ≤ byte ⌝ }
-    ensures { λ r. ⌜ (r ≡ turnState (now (image .entry)) i state byte true) × (now (image .exit) ≡ turnImage (now (image .entry)) i state byte true) ⌝ }
+    ensures { λ r. ⌜ (r ≡ turnState (now (image .entry)) i state byte true)
+        × (now (image .exit) ≡ turnImage (now (image .entry)) i state byte true) ⌝ }
 {
     let place = place_of(image, i);
     let start = place.start;
@@ -152,7 +250,7 @@ fn turn(image: &mut [u8], i: usize, state: LineState, byte: u8) -> LineState
     state.pulse_as_is(&mut image[start..end])
 }
 
-// Device i's line state after an event that is not a slot; its body is only read.
+// This is device i's line state after an event that is not a slot, for a search, which only reads the bodies.
 fn read_turn(image: &[u8], i: usize, state: LineState, byte: u8) -> LineState
     requires { ⌜ 2 ≤ byte ⌝ }
     ensures { λ r. ⌜ r ≡ turnState (now (image .entry)) i state byte true ⌝ }
@@ -166,14 +264,14 @@ fn read_turn(image: &[u8], i: usize, state: LineState, byte: u8) -> LineState
     state.pulsed_as_is(&image[start..end])
 }
 
-// How many devices an image has.
+// Byte 0 of an image is the number of its devices.
 pub fn device_count(image: &[u8]) -> usize
     ensures { λ r. ⌜ r ≡ countOf (now (image .entry)) ⌝ }
 {
     bits::wide(image::count(image))
 }
 
-// The smaller of two numbers: n devices have a line state, or as many as line states are lent where these are fewer.
+// Of n devices, only as many are served as line states are lent: this is the smaller of the two numbers.
 fn fewer(a: usize, b: usize) -> usize
     ensures { λ r. ⌜ r ≡ fewerOf a b ⌝ }
 {
@@ -188,7 +286,8 @@ fn either(a: bool, b: bool) -> bool
     if a { true } else { b }
 }
 
-// A byte of the trace is over 3. Every byte is looked at: a loop that may end early would take them one by one.
+// This tells whether a byte of the trace is over 3. The loop looks at every byte, as one that may end early would
+// compile to a test of each byte by itself.
 fn has_unknown_event(trace: &[u8]) -> bool
     ensures { λ r. ⌜ r ≡ someByte (λ byte. ltb 3 byte) (now (trace .entry)) ⌝ }
 {
@@ -201,7 +300,7 @@ fn has_unknown_event(trace: &[u8]) -> bool
     found
 }
 
-// Cause 5.
+// Cause 5 is a trace that is too long, or that has a byte over 3.
 fn is_bad_trace(trace: &[u8]) -> bool
     ensures { λ r. ⌜ r ≡ badTrace (now (trace .entry)) ⌝ }
 {
@@ -211,7 +310,18 @@ fn is_bad_trace(trace: &[u8]) -> bool
     has_unknown_event(trace)
 }
 
-// A program pulse, a 3, is in the trace.
+// Cause 11 is a trace with events whose first is not a reset, a 2. An empty trace has no event that could come before a
+// reset.
+fn lacks_first_reset(trace: &[u8]) -> bool
+    ensures { λ r. ⌜ r ≡ noFirstReset (now (trace .entry)) ⌝ }
+{
+    if trace.len() == 0 {
+        return false;
+    }
+    trace[0] != 2
+}
+
+// This tells whether a program pulse, a 3, is in the trace.
 fn has_pulse(trace: &[u8]) -> bool
     ensures { λ r. ⌜ r ≡ someByte (λ byte. eqb byte 3) (now (trace .entry)) ⌝ }
 {
@@ -224,9 +334,10 @@ fn has_pulse(trace: &[u8]) -> bool
     found
 }
 
-// Some device is not a DS1982.
+// This tells whether some device is not a DS1982.
 fn has_other_kind(image: &[u8]) -> bool
-    ensures { λ r. ⌜ r ≡ someBelow (countOf (now (image .entry))) (λ i. not (isEprom (kindAt (now (image .entry)) i))) ⌝ }
+    ensures { λ r. ⌜ r
+        ≡ someBelow (countOf (now (image .entry))) (λ i. not (isEprom (kindAt (now (image .entry)) i))) ⌝ }
 {
     let n = image::count(image);
     let mut i: u8 = 0;
@@ -241,7 +352,7 @@ fn has_other_kind(image: &[u8]) -> bool
     false
 }
 
-// Cause 6.
+// Cause 6 is a program pulse in the trace while a device is not a DS1982.
 fn is_bad_pulse(image: &[u8], trace: &[u8]) -> bool
     ensures { λ r. ⌜ r ≡ badPulse (now (image .entry)) (now (trace .entry)) ⌝ }
 {
@@ -251,7 +362,7 @@ fn is_bad_pulse(image: &[u8], trace: &[u8]) -> bool
     false
 }
 
-// Cause 7.
+// Cause 7 is too little room for the answers, or too few line states.
 fn lacks_room(image: &[u8], trace: &[u8], answers: usize, lines: usize) -> bool
     ensures { λ r. ⌜ r ≡ noRunRoom (now (image .entry)) (now (trace .entry)) answers lines ⌝ }
 {
@@ -261,8 +372,9 @@ fn lacks_room(image: &[u8], trace: &[u8], answers: usize, lines: usize) -> bool
     lines < device_count(image)
 }
 
-// Why a run is refused, 1 to 7; 0 where it is not.
-fn refusal(image: &[u8], trace: &[u8], answers: usize, lines: usize) -> u32
+// A run is refused with the number of the first cause that applies, in the order 1 to 5, 11, 6, 7; the number is 0
+// where none does.
+pub fn refusal(image: &[u8], trace: &[u8], answers: usize, lines: usize) -> u32
     ensures { λ r. ⌜ r ≡ runRefusal (now (image .entry)) (now (trace .entry)) answers lines ⌝ }
 {
     let number = image::refusal(image);
@@ -271,6 +383,9 @@ fn refusal(image: &[u8], trace: &[u8], answers: usize, lines: usize) -> u32
     }
     if is_bad_trace(trace) {
         return 5;
+    }
+    if lacks_first_reset(trace) {
+        return 11;
     }
     if is_bad_pulse(image, trace) {
         return 6;
@@ -283,43 +398,52 @@ fn refusal(image: &[u8], trace: &[u8], answers: usize, lines: usize) -> u32
 
 // ---- all devices
 
-// The level of an event on the first n devices, of any line states, which are taken as they are. It reads only.
-pub fn level(lines: &[LineState], n: usize, byte: u8) -> bool
-    ensures { λ r. ⌜ r ≡ levelOn (now (lines .entry)) n byte ⌝ }
+// The level of an event on the first n devices comes with how many of them were looked at, for any line states, which
+// are not tested for their range. A slot's level stops at the first device that pulls low, as nothing behind it changes
+// the level. A device that waits is looked at like any other. Only the line states are read, and nothing changes.
+pub fn level(lines: &[LineState], n: usize, byte: u8) -> Scan
+    ensures { λ r. ⌜ r ≡ scanOn (now (lines .entry)) n byte ⌝ }
 {
     let served = fewer(n, lines.len());
     let asked = asked(byte, served);
     let mut high = true;
-    let mut i: usize = 0;
-    while i < asked {
-        let state = lines[i];
-        high = high_with(high, state);
-        i = i + 1;
+    let mut looked: usize = 0;
+    while looks_on(high, looked, asked) {
+        let state = lines[looked];
+        high = state.sends_as_is();
+        looked = looked + 1;
     }
-    level_of(byte, served, high)
+    scan_of(byte, served, high, looked)
 }
 
-// Each of the first n devices, one after the other, in a slot at a level. No device's part depends on another's turn.
-// Slots have a loop of their own, as they are nearly all events, and each device's part in one is short.
-fn slot_all(image: &mut [u8], lines: &mut [LineState], n: usize, level: bool)
+// Each of the first n devices has its part in a slot at a level, one after the other; no device's part depends on
+// another's. The bytes that they copy are added up. Slots have a loop of their own, as nearly all events are slots, and
+// each device's part in one is short.
+fn slot_all(image: &mut [u8], lines: &mut [LineState], n: usize, level: bool) -> u64
     requires { ⌜ n ≤ length (now lines) ⌝ }
-    ensures { λ _. ⌜ busState (now (image .exit)) (now (lines .exit)) ≡ turns 1 level n (busState (now (image .entry)) (now (lines .entry))) ⌝ }
+    ensures { λ r. ⌜ (r ≡ copiedUpTo 1 level n (busState (now (image .entry)) (now (lines .entry))))
+        × (busState (now (image .exit)) (now (lines .exit))
+        ≡ turnsUpTo 1 level n (busState (now (image .entry)) (now (lines .entry)))) ⌝ }
 {
+    let mut copied: u64 = 0;
     let mut i: usize = 0;
     while i < n {
         let state = lines[i];
         if !state.waits() {
-            let next = slot(image, i, state, level);
-            lines[i] = next;
+            let after = slot(image, i, state, level);
+            lines[i] = state_after(after);
+            copied = add_turn(copied, after);
         }
         i = i + 1;
     }
+    copied
 }
 
-// Each of the first n devices in an event that is not a slot.
+// Each of the first n devices has its part in an event that is not a slot.
 fn turn_all(image: &mut [u8], lines: &mut [LineState], n: usize, byte: u8)
     requires { ⌜ (n ≤ length (now lines)) × (2 ≤ byte) ⌝ }
-    ensures { λ _. ⌜ busState (now (image .exit)) (now (lines .exit)) ≡ turns byte true n (busState (now (image .entry)) (now (lines .entry))) ⌝ }
+    ensures { λ _. ⌜ busState (now (image .exit)) (now (lines .exit))
+        ≡ turnsUpTo byte true n (busState (now (image .entry)) (now (lines .entry))) ⌝ }
 {
     let mut i: usize = 0;
     while i < n {
@@ -330,22 +454,41 @@ fn turn_all(image: &mut [u8], lines: &mut [LineState], n: usize, byte: u8)
     }
 }
 
-// Each of the first n devices in an event at its level.
-fn step_event(image: &mut [u8], lines: &mut [LineState], n: usize, byte: u8, level: bool)
+// Each of the first n devices has its part in an event at its level. Only a slot copies bytes: neither a reset nor a
+// program pulse does.
+fn step_event(image: &mut [u8], lines: &mut [LineState], n: usize, byte: u8, level: bool) -> u64
     requires { ⌜ n ≤ length (now lines) ⌝ }
-    ensures { λ _. ⌜ busState (now (image .exit)) (now (lines .exit)) ≡ turns byte level n (busState (now (image .entry)) (now (lines .entry))) ⌝ }
+    ensures { λ r. ⌜ (r ≡ copiedUpTo byte level n (busState (now (image .entry)) (now (lines .entry))))
+        × (busState (now (image .exit)) (now (lines .exit))
+        ≡ turnsUpTo byte level n (busState (now (image .entry)) (now (lines .entry)))) ⌝ }
 {
+    let mut copied: u64 = 0;
     if byte < 2 {
-        slot_all(image, lines, n, level);
+        copied = slot_all(image, lines, n, level);
     } else {
         turn_all(image, lines, n, byte);
     }
+    copied
 }
 
-// The line states of the first n devices after a slot at a level. The image is only read.
+// An event on the bus has a level, which each of the first n devices is then given, and the bytes that they copy are
+// added up; image and line states may be any.
+pub fn step(image: &mut [u8], lines: &mut [LineState], n: usize, byte: u8) -> EventResult
+    ensures { λ r. ⌜ (r ≡ eventResult (scanOn (now (lines .entry)) n byte)
+        (copiedOn n byte (busState (now (image .entry)) (now (lines .entry)))))
+        × (now (image .exit) ≡ stepOn n byte (busState (now (image .entry)) (now (lines .entry))) .image)
+        × (now (lines .exit) ≡ stepOn n byte (busState (now (image .entry)) (now (lines .entry))) .lines) ⌝ }
+{
+    let served = fewer(n, lines.len());
+    let scan = level(lines, n, byte);
+    let copied = step_event(image, lines, served, byte, scan.level);
+    event_result(scan, copied)
+}
+
+// This leaves the line states of the first n devices as a slot at a level does. The image is only read.
 fn read_slot_all(image: &[u8], lines: &mut [LineState], n: usize, level: bool)
     requires { ⌜ n ≤ length (now lines) ⌝ }
-    ensures { λ _. ⌜ now (lines .exit) ≡ statesAfter (now (image .entry)) (now (lines .entry)) n 1 level ⌝ }
+    ensures { λ _. ⌜ now (lines .exit) ≡ turnStatesOf (now (image .entry)) (now (lines .entry)) n 1 level ⌝ }
 {
     let mut i: usize = 0;
     while i < n {
@@ -358,10 +501,10 @@ fn read_slot_all(image: &[u8], lines: &mut [LineState], n: usize, level: bool)
     }
 }
 
-// The same after an event that is not a slot.
+// This leaves the line states of the first n devices as an event that is not a slot does. The image is only read.
 fn read_turn_all(image: &[u8], lines: &mut [LineState], n: usize, byte: u8)
     requires { ⌜ (n ≤ length (now lines)) × (2 ≤ byte) ⌝ }
-    ensures { λ _. ⌜ now (lines .exit) ≡ statesAfter (now (image .entry)) (now (lines .entry)) n byte true ⌝ }
+    ensures { λ _. ⌜ now (lines .exit) ≡ turnStatesOf (now (image .entry)) (now (lines .entry)) n byte true ⌝ }
 {
     let mut i: usize = 0;
     while i < n {
@@ -372,10 +515,10 @@ fn read_turn_all(image: &[u8], lines: &mut [LineState], n: usize, byte: u8)
     }
 }
 
-// The line states of the first n devices after an event at a level, of any image and any line states. The image is only
-// read.
+// This leaves the line states of the first n devices as an event at a level does, for any image and any line states.
+// The image is only read.
 pub fn step_all(image: &[u8], lines: &mut [LineState], n: usize, byte: u8, level: bool)
-    ensures { λ _. ⌜ now (lines .exit) ≡ statesAfter (now (image .entry)) (now (lines .entry)) n byte level ⌝ }
+    ensures { λ _. ⌜ now (lines .exit) ≡ turnStatesOf (now (image .entry)) (now (lines .entry)) n byte level ⌝ }
 {
     let served = fewer(n, lines.len());
     if byte < 2 {
@@ -385,10 +528,10 @@ pub fn step_all(image: &[u8], lines: &mut [LineState], n: usize, byte: u8, level
     }
 }
 
-// Sets the first n line states to one state.
+// The first n line states are set to one state.
 fn fill(lines: &mut [LineState], n: usize, state: LineState)
     requires { ⌜ n ≤ length (now lines) ⌝ }
-    ensures { λ _. ⌜ now (lines .exit) ≡ filled n state (now (lines .entry)) ⌝ }
+    ensures { λ _. ⌜ now (lines .exit) ≡ filledUpTo n state (now (lines .entry)) ⌝ }
 {
     let mut i: usize = 0;
     while i < n {
@@ -397,40 +540,58 @@ fn fill(lines: &mut [LineState], n: usize, state: LineState)
     }
 }
 
-// Each of the first n devices waits for a reset, of any line states.
+// Each of the first n devices then waits for a reset, whatever its line state was.
 pub fn wait_all(lines: &mut [LineState], n: usize)
-    ensures { λ _. ⌜ now (lines .exit) ≡ filled (fewerOf n (length (now (lines .entry)))) waitingState (now (lines .entry)) ⌝ }
+    ensures { λ _. ⌜ now (lines .exit)
+        ≡ filledUpTo (fewerOf n (length (now (lines .entry)))) waitingState (now (lines .entry)) ⌝ }
 {
     let served = fewer(n, lines.len());
     let waiting = LineState::waiting();
     fill(lines, served, waiting);
 }
 
-// Every event of a trace on n devices: its level is answered, then each device is given it.
-fn run_events(image: &mut [u8], trace: &[u8], answers: &mut [u8], lines: &mut [LineState], n: usize)
+// Each event of a trace on n devices gives its level as an answer, and then to each device. The bytes copied are added
+// up over the whole trace.
+fn run_events(
+    image: &mut [u8],
+    trace: &[u8],
+    answers: &mut [u8],
+    lines: &mut [LineState],
+    n: usize,
+) -> u64
     requires { ⌜ (length (now trace) ≤ length (now answers)) × (n ≤ length (now lines)) ⌝ }
-    ensures { λ _. ⌜ runState (now (image .exit)) (now (answers .exit)) (now (lines .exit)) ≡ events (now (trace .entry)) n (length (now (trace .entry))) (runState (now (image .entry)) (now (answers .entry)) (now (lines .entry))) ⌝ }
+    ensures { λ r. ⌜ (r ≡ copiedByEvents (now (trace .entry)) n (length (now (trace .entry)))
+        (runState (now (image .entry)) (now (answers .entry)) (now (lines .entry))))
+        × (runState (now (image .exit)) (now (answers .exit)) (now (lines .exit))
+        ≡ runEventsUpTo (now (trace .entry)) n (length (now (trace .entry)))
+        (runState (now (image .entry)) (now (answers .entry)) (now (lines .entry)))) ⌝ }
 {
+    let mut copied: u64 = 0;
     let mut k: usize = 0;
     while k < trace.len() {
         let byte = trace[k];
-        let line = level(lines, n, byte);
-        answers[k] = line as u8;
-        step_event(image, lines, n, byte, line);
+        let result = step(image, lines, n, byte);
+        answers[k] = result.level as u8;
+        copied = add_event(copied, result);
         k = k + 1;
     }
+    copied
 }
 
-// The run. What is refused changes nothing; else every device starts waiting, whatever the line states held.
-pub fn run(image: &mut [u8], trace: &[u8], answers: &mut [u8], lines: &mut [LineState]) -> u32
-    ensures { λ r. ⌜ RunLeaves (runOf (now (image .entry)) (now (trace .entry)) (now (answers .entry)) (now (lines .entry))) r (now (image .exit)) (now (answers .exit)) (now (lines .exit)) ⌝ }
+// A run that is refused changes nothing and has copied nothing; in any other every device starts waiting, whatever the
+// line states held.
+pub fn run(image: &mut [u8], trace: &[u8], answers: &mut [u8], lines: &mut [LineState]) -> RunResult
+    ensures { λ r. ⌜ RunLeaves
+        (runOf (now (image .entry)) (now (trace .entry)) (now (answers .entry)) (now (lines .entry))) r
+        (now (image .exit)) (now (answers .exit)) (now (lines .exit)) ⌝ }
 {
     let number = refusal(image, trace, answers.len(), lines.len());
+    let mut copied: u64 = 0;
     if number == ACCEPTED {
         let n = device_count(image);
         let waiting = LineState::waiting();
         fill(lines, n, waiting);
-        run_events(image, trace, answers, lines, n);
+        copied = run_events(image, trace, answers, lines, n);
     }
-    number
+    run_result(number, copied)
 }

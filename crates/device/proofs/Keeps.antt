@@ -16,7 +16,7 @@ use Rattle.sram.proofs.Keeps as sram
 use Rattle.eprom.proofs.Pulses as eprom
 use Rattle.device.specs.declared.LineState.{LineState}
 use Rattle.device.specs.Device.{memoryWrite, stageWrite, memoryReset, stageReset, memoryProgram, stageProgram}
-use Rattle.device.specs.Device.{bodyAsIs, resetAsIs, programAsIs}
+use Rattle.device.specs.Device.{bodyAfterSlotAsIs, bodyAfterResetAsIs, bodyAfterPulseAsIs}
 
 -- ---- by the stage
 
@@ -47,27 +47,27 @@ stage-program (Memory (Eprom e)) body =
 
 -- a slot keeps the body's length and its code
 pub slot-keeps : (state : LineState) (kind : Kind) (body : List ℕ) (level : Bool)
-    → Keeps body (bodyAsIs state kind body level)
-unfolding bodyAsIs
+    → Keeps body (bodyAfterSlotAsIs state kind body level)
+unfolding bodyAfterSlotAsIs
 slot-keeps state kind body level =
     let t = state .transfer in
     either (goesOn t) kept (stage-write (t .stage) kind (received t level) body level)
 
 -- so does a reset
-pub reset-keeps : (state : LineState) (body : List ℕ) → Keeps body (resetAsIs state body)
-unfolding resetAsIs
+pub reset-keeps : (state : LineState) (body : List ℕ) → Keeps body (bodyAfterResetAsIs state body)
+unfolding bodyAfterResetAsIs
 reset-keeps state body = stage-reset (state .transfer .stage) body
 
 -- so does a program pulse
-pub program-keeps : (state : LineState) (body : List ℕ) → Keeps body (programAsIs state body)
-unfolding programAsIs
+pub program-keeps : (state : LineState) (body : List ℕ) → Keeps body (bodyAfterPulseAsIs state body)
+unfolding bodyAfterPulseAsIs
 program-keeps state body = stage-program (state .transfer .stage) body
 
 -- ---- in a ROM stage the body stays as it is
 
 module _ (state : LineState) (r : RomStage) (in-rom : state .transfer .stage ≡ Rom r) (body : List ℕ) where
-  pub rom-slot-as-is : (kind : Kind) (level : Bool) → bodyAsIs state kind body level ≡ body
-  unfolding bodyAsIs stageWrite
+  pub rom-slot-as-is : (kind : Kind) (level : Bool) → bodyAfterSlotAsIs state kind body level ≡ body
+  unfolding bodyAfterSlotAsIs stageWrite
   rom-slot-as-is kind level =
       let t = state .transfer in
       ap (λ (s : Stage). cond (goesOn t) body (stageWrite s kind (received t level) body level)) in-rom
@@ -77,10 +77,10 @@ module _ (state : LineState) (r : RomStage) (in-rom : state .transfer .stage ≡
       same true = refl
       same false = refl
 
-  pub rom-reset-as-is : resetAsIs state body ≡ body
-  unfolding resetAsIs stageReset
+  pub rom-reset-as-is : bodyAfterResetAsIs state body ≡ body
+  unfolding bodyAfterResetAsIs stageReset
   rom-reset-as-is = ap (λ (s : Stage). stageReset s body) in-rom
 
-  pub rom-program-as-is : programAsIs state body ≡ body
-  unfolding programAsIs stageProgram
+  pub rom-program-as-is : bodyAfterPulseAsIs state body ≡ body
+  unfolding bodyAfterPulseAsIs stageProgram
   rom-program-as-is = ap (λ (s : Stage). stageProgram s body) in-rom

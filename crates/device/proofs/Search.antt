@@ -16,12 +16,12 @@ use Rattle.kind.specs.Kind.{bodySize}
 use Rattle.line.specs.declared.RomStage.the-variants.{Command}
 use Rattle.line.specs.declared.Stage.the-variants.{Rom}
 use Rattle.line.specs.declared.Transfer.{Transfer}
-use Rattle.line.specs.Transfers.{waiting, atRomCommand, sends, shifted}
+use Rattle.line.specs.Transfers.{waiting, atRomCommand, transferSends, shifted}
 use Rattle.line.specs.Slots.{shiftedOver}
 use Rattle.line.proofs.Transfers.{over-is, over-more}
 use Rattle.rom.specs.Rom.{searchBit, addressed, romCommand, afterSearch, romNext, romRange}
 use Rattle.device.specs.declared.LineState.{LineState}
-use Rattle.device.specs.Device.{stageNext, lineState, sendsAsIs, afterSlot, stateAsIs, stageRange, inRange}
+use Rattle.device.specs.Device.{stageNext, lineState, sendsAsIs, transferAfterSlot, stateAfterSlotAsIs, stageRange, lineStateInRange}
 use Rattle.device.specs.Device.{sendsOf}
 use Rattle.device.specs.Device.{stateAfterSlot}
 use Rattle.device.proofs.Range.{sends-same, step-same}
@@ -41,21 +41,21 @@ beq-not true = refl
 beq-not false = refl
 
 module _ (at : ℕ) (kind : Kind) (body : List ℕ) (sized : length body ≡ bodySize kind) (low : at < 64) where
-  in-bit : inRange (searching at body []) kind body ≡ true
-  unfolding inRange stageRange romRange shiftedOver searchBit
+  in-bit : lineStateInRange (searching at body []) kind body ≡ true
+  unfolding lineStateInRange stageRange romRange shiftedOver searchBit
   in-bit = rw (eq-eqb (length body) (bodySize kind) sized, lt-ltb at 64 low)
 
-  in-complement : (a : Bool) → inRange (searching at body (a ∷ [])) kind body ≡ true
-  unfolding inRange stageRange romRange shiftedOver searchBit
+  in-complement : (a : Bool) → lineStateInRange (searching at body (a ∷ [])) kind body ≡ true
+  unfolding lineStateInRange stageRange romRange shiftedOver searchBit
   in-complement a = rw (eq-eqb (length body) (bodySize kind) sized, lt-ltb at 64 low)
 
-  in-direction : (a b : Bool) → inRange (searching at body (a ∷ b ∷ [])) kind body ≡ true
-  unfolding inRange stageRange romRange shiftedOver searchBit
+  in-direction : (a b : Bool) → lineStateInRange (searching at body (a ∷ b ∷ [])) kind body ≡ true
+  unfolding lineStateInRange stageRange romRange shiftedOver searchBit
   in-direction a b = rw (eq-eqb (length body) (bodySize kind) sized, lt-ltb at 64 low)
 
   -- the first slot
   pub search-sends-bit : sendsOf (searching at body []) kind body ≡ bitAt body at
-  unfolding sendsAsIs sends shiftedOver searchBit bitOf
+  unfolding sendsAsIs transferSends shiftedOver searchBit bitOf
   search-sends-bit = sends-same (searching at body []) kind body in-bit ∙ choose (bitAt body at)
     where
       choose : (bit : Bool) → bitOf (cond bit 0b101 0b110) 0 ≡ bit
@@ -63,12 +63,12 @@ module _ (at : ℕ) (kind : Kind) (body : List ℕ) (sized : length body ≡ bod
       choose false = refl
 
   pub search-after-bit : (a : Bool) → stateAfterSlot (searching at body []) kind body a ≡ searching at body (a ∷ [])
-  unfolding stateAsIs afterSlot shiftedOver searchBit
+  unfolding stateAfterSlotAsIs transferAfterSlot shiftedOver searchBit
   search-after-bit a = step-same (searching at body []) kind body in-bit a
 
   -- the second slot, whatever the level of the first was
   pub search-sends-complement : (a : Bool) → sendsOf (searching at body (a ∷ [])) kind body ≡ not (bitAt body at)
-  unfolding sendsAsIs sends shiftedOver searchBit bitOf shiftIn
+  unfolding sendsAsIs transferSends shiftedOver searchBit bitOf shiftIn
   search-sends-complement a =
       sends-same (searching at body (a ∷ [])) kind body (in-complement a) ∙ choose (bitAt body at) a
     where
@@ -80,12 +80,12 @@ module _ (at : ℕ) (kind : Kind) (body : List ℕ) (sized : length body ≡ bod
 
   pub search-after-complement : (a b : Bool)
       → stateAfterSlot (searching at body (a ∷ [])) kind body b ≡ searching at body (a ∷ b ∷ [])
-  unfolding stateAsIs afterSlot shiftedOver searchBit
+  unfolding stateAfterSlotAsIs transferAfterSlot shiftedOver searchBit
   search-after-complement a b = step-same (searching at body (a ∷ [])) kind body (in-complement a) b
 
   -- the third slot, whatever the levels of the others were
   pub search-sends-direction : (a b : Bool) → sendsOf (searching at body (a ∷ b ∷ [])) kind body ≡ true
-  unfolding sendsAsIs sends shiftedOver searchBit bitOf shiftIn
+  unfolding sendsAsIs transferSends shiftedOver searchBit bitOf shiftIn
   search-sends-direction a b =
       sends-same (searching at body (a ∷ b ∷ [])) kind body (in-direction a b) ∙ choose (bitAt body at) a b
     where
@@ -101,8 +101,8 @@ module _ (at : ℕ) (kind : Kind) (body : List ℕ) (sized : length body ≡ bod
 
   pub search-after-direction : (a b level : Bool)
       → stateAfterSlot (searching at body (a ∷ b ∷ [])) kind body level
-      ≡ lineState (afterSearch at body (Bool·beq (bitAt body at) level))
-  unfolding stateAsIs afterSlot shiftedOver searchBit stageNext romNext
+      ≡ lineState (afterSearch at kind body (Bool·beq (bitAt body at) level))
+  unfolding stateAfterSlotAsIs transferAfterSlot shiftedOver searchBit stageNext romNext
   search-after-direction a b level = step-same (searching at body (a ∷ b ∷ [])) kind body (in-direction a b) level
 
   -- with its bit as the direction it goes on to the next bit, or after the last is addressed
@@ -113,7 +113,7 @@ module _ (at : ℕ) (kind : Kind) (body : List ℕ) (sized : length body ≡ bod
       search-after-direction a b level ∙ rw (same, beq-self (bitAt body at), lt-ltb at 63 h)
 
   pub search-ends : (a b level : Bool) → level ≡ bitAt body at → at ≡ 63
-      → stateAfterSlot (searching at body (a ∷ b ∷ [])) kind body level ≡ lineState addressed
+      → stateAfterSlot (searching at body (a ∷ b ∷ [])) kind body level ≡ lineState (addressed kind)
   unfolding afterSearch
   search-ends a b level same e =
       search-after-direction a b level ∙ rw (same, beq-self (bitAt body at), le-ltb at 63 (omega arith))
@@ -144,10 +144,10 @@ unfolding bitOf
 one-of-ones = below-eight (λ (i : ℕ). bitOf 0xFF i ≡ true) refl refl refl refl refl refl refl refl
 
 module _ (levels : List Bool) (kind : Kind) (body : List ℕ) (sized : length body ≡ bodySize kind) where
-  in-command : length levels < 8 → inRange (commanded levels) kind body ≡ true
-  unfolding inRange stageRange romRange
+  in-command : length levels < 8 → lineStateInRange (commanded levels) kind body ≡ true
+  unfolding lineStateInRange stageRange romRange
   in-command h =
-      ap (λ (s : LineState). inRange s kind body) (receives levels)
+      ap (λ (s : LineState). lineStateInRange s kind body) (receives levels)
       ∙ rw (
         eq-eqb (length body) (bodySize kind) sized,
         lt-ltb 0 (8 - length levels) (omega arith),
@@ -156,7 +156,7 @@ module _ (levels : List Bool) (kind : Kind) (body : List ℕ) (sized : length bo
 
   -- the device listens
   pub command-sends : length levels < 8 → sendsOf (commanded levels) kind body ≡ true
-  unfolding sendsAsIs sends
+  unfolding sendsAsIs transferSends
   command-sends h =
       sends-same (commanded levels) kind body (in-command h)
       ∙ ap sendsAsIs (receives levels)
@@ -167,10 +167,10 @@ module _ (levels : List Bool) (kind : Kind) (body : List ℕ) (sized : length bo
   -- up to the seventh level it goes on listening
   pub command-goes-on : (level : Bool) → length levels < 7
       → stateAfterSlot (commanded levels) kind body level ≡ commanded (levels ++ level ∷ [])
-  unfolding stateAsIs afterSlot
+  unfolding stateAfterSlotAsIs transferAfterSlot
   command-goes-on level h =
       step-same (commanded levels) kind body (in-command (omega arith)) level
-      ∙ ap (λ (s : LineState). stateAsIs s kind body level) (receives levels)
+      ∙ ap (λ (s : LineState). stateAfterSlotAsIs s kind body level) (receives levels)
       ∙ rw (lt-ltb 1 (8 - length levels) (omega arith))
       (ap (λ (t : Transfer). lineState (shifted t level)) (sym (over-is levels atRomCommand))
       ∙ ap lineState (sym (over-more levels level atRomCommand)))
@@ -178,13 +178,13 @@ module _ (levels : List Bool) (kind : Kind) (body : List ℕ) (sized : length bo
   -- with the eighth the command that they spell decides
   pub command-ends : (level : Bool) → length levels ≡ 7
       → stateAfterSlot (commanded levels) kind body level
-      ≡ lineState (romCommand (spelled (levels ++ level ∷ [])) body)
-  unfolding stateAsIs afterSlot stageNext romNext
+      ≡ lineState (romCommand (spelled (levels ++ level ∷ [])) kind body)
+  unfolding stateAfterSlotAsIs transferAfterSlot stageNext romNext
   command-ends level h =
       step-same (commanded levels) kind body (in-command (omega arith)) level
-      ∙ ap (λ (s : LineState). stateAsIs s kind body level) (receives levels)
+      ∙ ap (λ (s : LineState). stateAfterSlotAsIs s kind body level) (receives levels)
       ∙ rw (le-ltb 1 (8 - length levels) (omega arith))
-      (ap (λ (value : ℕ). lineState (romCommand value body)) (whole level h))
+      (ap (λ (value : ℕ). lineState (romCommand value kind body)) (whole level h))
     where
       whole : (level : Bool) → length levels ≡ 7 → shiftIn (shiftsIn 0xFF levels) level ≡ spelled (levels ++ level ∷ [])
       whole level h =

@@ -1,43 +1,48 @@
--- Document 01, 'The trace and its levels': one device. What it sends in a slot, and what a slot, a reset and a program
--- pulse leave of its line state (the line record) and of its body.
+-- Document 01, 'The trace and its levels', and document 02, items 4 and 7, are stated here for one device: what it
+-- sends in a slot, what a slot, a reset and a program pulse leave of its line state (document 01's line record) and of
+-- its body, and what a copy did in a slot.
 use Prim.Native.Nat.{ℕ}
-use mathlib.Core.Bool.{Bool, cond, _&&_}
+use mathlib.Core.Bool.{Bool, not, cond, _&&_}
 use mathlib.Core.List.{List}
 use lib.ListN.{length}
 use lib.Dec.{eqb}
 use Rattle.kind.specs.declared.Kind.{Kind}
 use Rattle.kind.specs.declared.Kind.the-variants as kinds
-use Rattle.kind.specs.Kind.{bodySize, memorySize, isSram, isEprom}
+use Rattle.kind.specs.Kind.{bodySize, memorySize, isSram, isEprom, isFlat}
 use Rattle.line.specs.declared.MemoryStage.{MemoryStage}
 use Rattle.line.specs.declared.MemoryStage.the-variants.{Command, Sram, Eprom}
 use Rattle.line.specs.declared.Stage.{Stage}
 use Rattle.line.specs.declared.Stage.the-variants.{Rom, Memory}
 use Rattle.line.specs.declared.Transfer.{Transfer}
-use Rattle.line.specs.Transfers.{waiting, atRomCommand, underWay, sends, goesOn, received, shifted}
+use Rattle.line.specs.Transfers.{waiting, atRomCommand, underWay, transferSends, goesOn, received, shifted}
 use Rattle.rom.specs.Rom.{romNext, romRange}
-use Rattle.sram.specs.Sram.{sramCommand, sramNext, sramWrite, sramReset, sramRange}
+use Rattle.sram.specs.declared.CopyDone.{CopyDone}
+use Rattle.sram.specs.declared.CopyDone.the-variants.{NoCopy}
+use Rattle.sram.specs.Sram.{sramCommand, sramNext, sramWrite, bytesCopied, sramCopy, sramReset, sramRange}
 use Rattle.eprom.specs.Eprom.{epromCommand, epromNext, epromPulse, epromProgram, epromRange}
 use Rattle.device.specs.declared.LineState.{LineState}
+use Rattle.device.specs.declared.Stepped.{Stepped}
 
 -- ---- the end of a transfer, by the stage
 
--- what a memory command leads to
+-- A memory command leads to the first transfer of a memory function of the device's kind.
 unfoldable pub memoryCommand : Kind → ℕ → List ℕ → Transfer
-memoryCommand (kinds.Sram size) value body = sramCommand value body
+memoryCommand (kinds.Sram size flat) value body = sramCommand value body
 memoryCommand kinds.Eprom value body = epromCommand value
 memoryCommand kinds.Unknown value body = waiting
 
--- the transfer after that of a stage, in which `value` was received; its last slot was at `level`
+-- When the transfer of a stage ends, in which `value` was received and whose last slot was at `level`, this transfer
+-- follows it.
 unfoldable pub memoryNext : MemoryStage → Kind → ℕ → List ℕ → Transfer
 memoryNext Command kind value body = memoryCommand kind value body
 memoryNext (Sram s) kind value body = sramNext s (memorySize kind) value body
 memoryNext (Eprom e) kind value body = epromNext e value body
 
 unfoldable pub stageNext : Stage → Kind → ℕ → List ℕ → Bool → Transfer
-stageNext (Rom r) kind value body level = romNext r value body level
+stageNext (Rom r) kind value body level = romNext r kind value body level
 stageNext (Memory m) kind value body level = memoryNext m kind value body
 
--- the body after that transfer: only a memory function of a DS1992 or DS1993 changes it
+-- When a transfer ends, only a memory function of a DS1992 or DS1993 changes the body.
 unfoldable pub memoryWrite : MemoryStage → Kind → ℕ → List ℕ → Bool → List ℕ
 memoryWrite Command kind value body level = body
 memoryWrite (Sram s) kind value body level = sramWrite s (memorySize kind) value body level
@@ -47,9 +52,19 @@ unfoldable pub stageWrite : Stage → Kind → ℕ → List ℕ → Bool → Lis
 stageWrite (Rom r) kind value body level = body
 stageWrite (Memory m) kind value body level = memoryWrite m kind value body level
 
+-- When a transfer ends, only a memory function of a DS1992 or DS1993 makes a copy.
+unfoldable pub memoryCopy : MemoryStage → Kind → ℕ → List ℕ → CopyDone
+memoryCopy Command kind value body = NoCopy
+memoryCopy (Sram s) kind value body = sramCopy s (memorySize kind) value body
+memoryCopy (Eprom e) kind value body = NoCopy
+
+unfoldable pub stageCopy : Stage → Kind → ℕ → List ℕ → CopyDone
+stageCopy (Rom r) kind value body = NoCopy
+stageCopy (Memory m) kind value body = memoryCopy m kind value body
+
 -- ---- a reset and a program pulse, by the stage
 
--- the body after a reset
+-- A reset changes the body only in a memory function of a DS1992 or DS1993.
 unfoldable pub memoryReset : MemoryStage → List ℕ → List ℕ
 memoryReset Command body = body
 memoryReset (Sram s) body = sramReset s body
@@ -59,7 +74,8 @@ unfoldable pub stageReset : Stage → List ℕ → List ℕ
 stageReset (Rom r) body = body
 stageReset (Memory m) body = memoryReset m body
 
--- the transfer and the body after a program pulse: elsewhere than in a DS1982's memory function it does nothing
+-- A program pulse does nothing elsewhere than in a DS1982's memory function. The transfer after it is `stagePulse`, and
+-- the body after it is `stageProgram`.
 unfoldable pub memoryPulse : MemoryStage → Transfer → List ℕ → Transfer
 memoryPulse Command transfer body = transfer
 memoryPulse (Sram s) transfer body = transfer
@@ -83,95 +99,117 @@ stageProgram (Memory m) body = memoryProgram m body
 abbrev pub lineState : Transfer → LineState
 lineState transfer = record { transfer = transfer }
 
--- at the start of a run every device waits for a reset and answers 1
+-- At the start of a run every device waits for a reset and answers 1.
 abbrev pub waitingState : LineState
 waitingState = lineState waiting
 
--- a reset puts each device at the ROM command
+-- A reset puts each device at the ROM command.
 abbrev pub resetState : LineState
 resetState = lineState atRomCommand
 
--- no transfer is under way
+-- A device waits while it has no transfer under way.
 unfoldable pub waits : LineState → Bool
 waits state = eqb (state .transfer .left) 0
 
--- the level that a device sends in a slot
+-- This is the level that a device sends in a slot.
 unfoldable pub sendsAsIs : LineState → Bool
-sendsAsIs state = sends (state .transfer)
+sendsAsIs state = transferSends (state .transfer)
 
--- The transfer after a slot at a level of the line. Where slots are left, what is received only moves on; with the last
--- slot the stage decides.
-unfoldable pub afterSlot : Transfer → Kind → List ℕ → Bool → Transfer
-afterSlot transfer kind body level =
+-- While a slot at a level of the line is not the last of its transfer, it only shifts the level into the register; with
+-- the last slot the stage decides which transfer follows.
+unfoldable pub transferAfterSlot : Transfer → Kind → List ℕ → Bool → Transfer
+transferAfterSlot transfer kind body level =
     cond (goesOn transfer) (shifted transfer level)
     (stageNext (transfer .stage) kind (received transfer level) body level)
 
-unfoldable pub stateAsIs : LineState → Kind → List ℕ → Bool → LineState
-stateAsIs state kind body level = lineState (afterSlot (state .transfer) kind body level)
+unfoldable pub stateAfterSlotAsIs : LineState → Kind → List ℕ → Bool → LineState
+stateAfterSlotAsIs state kind body level = lineState (transferAfterSlot (state .transfer) kind body level)
 
--- the body after that slot: only the last slot of a transfer changes it
-unfoldable pub bodyAsIs : LineState → Kind → List ℕ → Bool → List ℕ
-bodyAsIs state kind body level =
+-- Only the last slot of a transfer changes the body.
+unfoldable pub bodyAfterSlotAsIs : LineState → Kind → List ℕ → Bool → List ℕ
+bodyAfterSlotAsIs state kind body level =
     cond (goesOn (state .transfer)) body
     (stageWrite (state .transfer .stage) kind (received (state .transfer) level) body level)
 
--- the body after a reset
-unfoldable pub resetAsIs : LineState → List ℕ → List ℕ
-resetAsIs state body = stageReset (state .transfer .stage) body
+-- Only the last slot of a transfer makes a copy.
+unfoldable pub copyInSlotAsIs : LineState → Kind → List ℕ → Bool → CopyDone
+copyInSlotAsIs state kind body level =
+    cond (goesOn (state .transfer)) NoCopy
+    (stageCopy (state .transfer .stage) kind (received (state .transfer) level) body)
 
--- the line state and the body after a program pulse
-unfoldable pub pulseAsIs : LineState → List ℕ → LineState
-pulseAsIs state body = lineState (stagePulse (state .transfer .stage) (state .transfer) body)
+-- A slot hands up the line state after it, and what a copy did in it (document 02, item 4).
+abbrev pub stepped : LineState → CopyDone → Stepped
+stepped next copy = record { next = next; copy = copy }
 
-unfoldable pub programAsIs : LineState → List ℕ → List ℕ
-programAsIs state body = stageProgram (state .transfer .stage) body
+-- A reset changes the body as the stage in which it comes has it.
+unfoldable pub bodyAfterResetAsIs : LineState → List ℕ → List ℕ
+bodyAfterResetAsIs state body = stageReset (state .transfer .stage) body
+
+-- A program pulse changes the line state and the body as the stage in which it comes has it.
+unfoldable pub stateAfterPulseAsIs : LineState → List ℕ → LineState
+stateAfterPulseAsIs state body = lineState (stagePulse (state .transfer .stage) (state .transfer) body)
+
+unfoldable pub bodyAfterPulseAsIs : LineState → List ℕ → List ℕ
+bodyAfterPulseAsIs state body = stageProgram (state .transfer .stage) body
 
 -- ---- the range of a line state's numbers
 
--- a memory function is in range only where it is one of the device's kind
+-- A memory function is in range only where it is one of the device's kind.
 unfoldable pub memoryRange : MemoryStage → Kind → ℕ → Bool
 memoryRange Command kind left = underWay 8 left
 memoryRange (Sram s) kind left = isSram kind && sramRange s (memorySize kind) left
 memoryRange (Eprom e) kind left = isEprom kind && epromRange e left
 
+-- A device with a flat battery is in no memory stage (document 02, item 7).
 unfoldable pub stageRange : Stage → Kind → ℕ → ℕ → Bool
 stageRange (Rom r) kind register left = romRange r register left
-stageRange (Memory m) kind register left = memoryRange m kind left
+stageRange (Memory m) kind register left = not (isFlat kind) && memoryRange m kind left
 
--- the body has its kind's size, and the numbers of the transfer are in their stage's range
-unfoldable pub inRange : LineState → Kind → List ℕ → Bool
-inRange state kind body =
+-- A line state is in range if the body has its kind's size and the transfer's numbers are in their stage's range.
+unfoldable pub lineStateInRange : LineState → Kind → List ℕ → Bool
+lineStateInRange state kind body =
     eqb (length body) (bodySize kind)
     && stageRange (state .transfer .stage) kind (state .transfer .register) (state .transfer .left)
 
--- Document 01: a line state with a number outside its stage's range is taken as waiting. Our own ruling, as document
--- 01 has no such line state: so is one in a memory function of another kind, or with a body not of its kind's size. A
--- family that is not known has no bytes of a body.
-unfoldable pub taken : LineState → Kind → List ℕ → LineState
-taken state kind body = cond (inRange state kind body) state waitingState
+-- Document 01 has a line state with a number outside its stage's range count as waiting. Our own ruling is that so does
+-- one in a memory function of another kind, in a memory stage with a flat battery, or with a body that is not of its
+-- kind's size: the documents have no such line state. The body of a device of an unknown family has size 0.
+unfoldable pub orWaiting : LineState → Kind → List ℕ → LineState
+orWaiting state kind body = cond (lineStateInRange state kind body) state waitingState
 
 -- ---- any line state
 
--- what a device sends in a slot
+-- This is the level that a device sends in a slot, where a line state out of range counts as waiting.
 unfoldable pub sendsOf : LineState → Kind → List ℕ → Bool
-sendsOf state kind body = sendsAsIs (taken state kind body)
+sendsOf state kind body = sendsAsIs (orWaiting state kind body)
 
--- its line state after a slot in which the line had a level
+-- This is a device's line state after a slot in which the line had a level.
 unfoldable pub stateAfterSlot : LineState → Kind → List ℕ → Bool → LineState
-stateAfterSlot state kind body level = stateAsIs (taken state kind body) kind body level
+stateAfterSlot state kind body level = stateAfterSlotAsIs (orWaiting state kind body) kind body level
 
--- its body after that slot
+-- This is a device's body after a slot in which the line had a level.
 unfoldable pub bodyAfterSlot : LineState → Kind → List ℕ → Bool → List ℕ
-bodyAfterSlot state kind body level = bodyAsIs (taken state kind body) kind body level
+bodyAfterSlot state kind body level = bodyAfterSlotAsIs (orWaiting state kind body) kind body level
 
--- its body after a reset
+-- This is what a copy of a device did in a slot in which the line had a level.
+unfoldable pub copyInSlot : LineState → Kind → List ℕ → Bool → CopyDone
+copyInSlot state kind body level = copyInSlotAsIs (orWaiting state kind body) kind body level
+
+-- This is the number of bytes that a device copies to its memory in a slot: as it is, and of any line state.
+unfoldable pub bytesInSlotAsIs : LineState → Kind → List ℕ → Bool → ℕ
+bytesInSlotAsIs state kind body level = bytesCopied (copyInSlotAsIs state kind body level)
+
+unfoldable pub bytesInSlot : LineState → Kind → List ℕ → Bool → ℕ
+bytesInSlot state kind body level = bytesCopied (copyInSlot state kind body level)
+
+-- This is a device's body after a reset.
 unfoldable pub bodyAfterReset : LineState → Kind → List ℕ → List ℕ
-bodyAfterReset state kind body = resetAsIs (taken state kind body) body
+bodyAfterReset state kind body = bodyAfterResetAsIs (orWaiting state kind body) body
 
--- its line state after a program pulse
+-- This is a device's line state after a program pulse.
 unfoldable pub stateAfterPulse : LineState → Kind → List ℕ → LineState
-stateAfterPulse state kind body = pulseAsIs (taken state kind body) body
+stateAfterPulse state kind body = stateAfterPulseAsIs (orWaiting state kind body) body
 
--- its body after a program pulse
+-- This is a device's body after a program pulse.
 unfoldable pub bodyAfterPulse : LineState → Kind → List ℕ → List ℕ
-bodyAfterPulse state kind body = programAsIs (taken state kind body) body
+bodyAfterPulse state kind body = bodyAfterPulseAsIs (orWaiting state kind body) body

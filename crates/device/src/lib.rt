@@ -1,37 +1,49 @@
-// One device on the line: its line state by value, and what a slot, a reset and a program pulse leave of it and of
-// its body.
+// This crate is one device on the line: its line state by value, and what a slot, a reset and a program pulse leave of
+// it and of its body.
 //
-// A slot has two sides: `step` is the line state after it and only reads the body, `write` is the body after it. Both
-// are given the level of the line. A line state that the device cannot be in is taken as waiting. The functions whose
-// names end in `as_is` leave that test out: no slot, reset or pulse leads out of the range (proofs/Range.antt), so
-// that a run, which starts with devices that wait, needs it nowhere.
+// A slot is two functions, which are given the level of the line: `step` returns the line state after it and only reads
+// the body, for a search; `slot` returns the same line state, changes the body and says what a copy did, for a run. A
+// line state that the device cannot be in counts as waiting. The functions whose names end in `as_is` leave that test
+// out: no slot, reset or pulse leads out of the range (proofs/Range.antt), so that a run, whose devices wait at the
+// start, needs it nowhere.
 use kind::Kind;
 use line::MemoryStage;
 use line::Stage;
 use line::Transfer;
+use sram::CopyDone;
 ghost use mathlib.Core.Path.{_≡_};
 ghost use Rattle.line.specs.Transfers.{goesOn, shifted};
 ghost use Rattle.device.specs.Device.{memoryCommand, memoryNext, stageNext, memoryWrite, stageWrite, memoryReset};
 ghost use Rattle.device.specs.Device.{stageReset, memoryPulse, stagePulse, memoryProgram, stageProgram};
-ghost use Rattle.device.specs.Device.{lineState};
-ghost use Rattle.device.specs.Device.{waitingState, resetState, waits, sendsAsIs, stateAsIs, bodyAsIs, resetAsIs};
-ghost use Rattle.device.specs.Device.{pulseAsIs, programAsIs, memoryRange, stageRange, inRange, taken, sendsOf};
+ghost use Rattle.sram.specs.Sram.{bytesCopied};
+ghost use Rattle.device.specs.Device.{memoryCopy, stageCopy, copyInSlotAsIs, copyInSlot};
+ghost use Rattle.device.specs.Device.{stepped, lineState};
+ghost use Rattle.device.specs.Device.{waitingState, resetState, waits, sendsAsIs, stateAfterSlotAsIs};
+ghost use Rattle.device.specs.Device.{bodyAfterSlotAsIs, bodyAfterResetAsIs};
+ghost use Rattle.device.specs.Device.{stateAfterPulseAsIs, bodyAfterPulseAsIs, memoryRange, stageRange};
+ghost use Rattle.device.specs.Device.{lineStateInRange, orWaiting, sendsOf};
 ghost use Rattle.device.specs.Device.{stateAfterSlot, bodyAfterSlot, bodyAfterReset, stateAfterPulse};
 ghost use Rattle.device.specs.Device.{bodyAfterPulse};
 
-// Where a device is on the line: the line record of document 01.
+// A line state is where a device is on the line: document 01's line record.
 pub struct LineState {
     pub transfer: Transfer,
 }
 
+// A slot hands up the line state after it, and what a copy did in it.
+pub struct Stepped {
+    pub next: LineState,
+    pub copy: CopyDone,
+}
+
 // ---- the end of a transfer, by the stage
 
-// What a memory command leads to.
+// A memory command leads to the first transfer of a memory function of the device's kind.
 fn memory_command(kind: Kind, value: u8, body: &[u8]) -> Transfer
     ensures { λ r. ⌜ r ≡ memoryCommand kind value (now (body .entry)) ⌝ }
 {
     match kind {
-        Kind::Sram { size: _ } => sram::command(value, body),
+        Kind::Sram { size: _, flat: _ } => sram::command(value, body),
         Kind::Eprom => eprom::command(value),
         Kind::Unknown => line::waiting(),
     }
@@ -47,33 +59,61 @@ fn memory_next(m: MemoryStage, kind: Kind, value: u8, body: &[u8]) -> Transfer
     }
 }
 
-// The transfer after that of a stage, in which `value` was received; its last slot was at `level`.
+// When the transfer of a stage ends, in which `value` was received and whose last slot was at `level`, this transfer
+// follows it.
 fn stage_next(stage: Stage, kind: Kind, value: u8, body: &[u8], level: bool) -> Transfer
     ensures { λ r. ⌜ r ≡ stageNext stage kind value (now (body .entry)) level ⌝ }
 {
     match stage {
-        Stage::Rom(r) => rom::next(r, value, body, level),
+        Stage::Rom(r) => rom::next(r, kind, value, body, level),
         Stage::Memory(m) => memory_next(m, kind, value, body),
     }
 }
 
-fn memory_write(m: MemoryStage, kind: Kind, value: u8, body: &mut [u8], level: bool)
-    ensures { λ r. ⌜ now (body .exit) ≡ memoryWrite m kind value (now (body .entry)) level ⌝ }
+fn stepped_to(transfer: Transfer, copy: CopyDone) -> Stepped
+    ensures { λ r. ⌜ r ≡ stepped (lineState transfer) copy ⌝ }
+{
+    let next = LineState { transfer };
+    Stepped { next, copy }
+}
+
+// The next transfer is worked out from the body as it was: it comes before the body changes.
+fn memory_end(m: MemoryStage, kind: Kind, value: u8, body: &mut [u8], level: bool) -> Stepped
+    ensures { λ r. ⌜ (r ≡ stepped (lineState (memoryNext m kind value (now (body .entry))))
+        (memoryCopy m kind value (now (body .entry))))
+        × (now (body .exit) ≡ memoryWrite m kind value (now (body .entry)) level) ⌝ }
 {
     match m {
-        MemoryStage::Command => {}
-        MemoryStage::Sram(s) => sram::write(s, kind::memory_size(kind), value, body, level),
-        MemoryStage::Eprom(_) => {}
+        MemoryStage::Command => {
+            let next = memory_command(kind, value, body);
+            stepped_to(next, CopyDone::NoCopy)
+        }
+        MemoryStage::Sram(s) => {
+            let size = kind::memory_size(kind);
+            let next = sram::next(s, size, value, body);
+            let copy = sram::write(s, size, value, body, level);
+            stepped_to(next, copy)
+        }
+        MemoryStage::Eprom(e) => {
+            let next = eprom::next(e, value, body);
+            stepped_to(next, CopyDone::NoCopy)
+        }
     }
 }
 
-// Leaves the body as that transfer does.
-fn stage_write(stage: Stage, kind: Kind, value: u8, body: &mut [u8], level: bool)
-    ensures { λ r. ⌜ now (body .exit) ≡ stageWrite stage kind value (now (body .entry)) level ⌝ }
+// The end of a transfer changes the body; this is the line state after it, and what a copy did. Only a DS1992 or DS1993
+// writes in a slot.
+fn stage_end(stage: Stage, kind: Kind, value: u8, body: &mut [u8], level: bool) -> Stepped
+    ensures { λ r. ⌜ (r ≡ stepped (lineState (stageNext stage kind value (now (body .entry)) level))
+        (stageCopy stage kind value (now (body .entry))))
+        × (now (body .exit) ≡ stageWrite stage kind value (now (body .entry)) level) ⌝ }
 {
     match stage {
-        Stage::Rom(_) => {}
-        Stage::Memory(m) => memory_write(m, kind, value, body, level),
+        Stage::Rom(r) => {
+            let next = rom::next(r, kind, value, body, level);
+            stepped_to(next, CopyDone::NoCopy)
+        }
+        Stage::Memory(m) => memory_end(m, kind, value, body, level),
     }
 }
 
@@ -89,7 +129,7 @@ fn memory_reset(m: MemoryStage, body: &mut [u8])
     }
 }
 
-// Leaves the body as a reset does.
+// This changes the body as a reset does in a stage.
 fn stage_reset(stage: Stage, body: &mut [u8])
     ensures { λ r. ⌜ now (body .exit) ≡ stageReset stage (now (body .entry)) ⌝ }
 {
@@ -109,7 +149,7 @@ fn memory_pulse(m: MemoryStage, transfer: Transfer, body: &[u8]) -> Transfer
     }
 }
 
-// The transfer after a program pulse in a stage, in which `transfer` is under way.
+// This is the transfer after a program pulse that comes in a stage, in which `transfer` is under way.
 fn stage_pulse(stage: Stage, transfer: Transfer, body: &[u8]) -> Transfer
     ensures { λ r. ⌜ r ≡ stagePulse stage transfer (now (body .entry)) ⌝ }
 {
@@ -129,7 +169,7 @@ fn memory_program(m: MemoryStage, body: &mut [u8])
     }
 }
 
-// Leaves the body as a program pulse does.
+// This changes the body as a program pulse does in a stage.
 fn stage_program(stage: Stage, body: &mut [u8])
     ensures { λ r. ⌜ now (body .exit) ≡ stageProgram stage (now (body .entry)) ⌝ }
 {
@@ -153,17 +193,31 @@ fn memory_in_range(m: MemoryStage, kind: Kind, left: u8) -> bool
     }
 }
 
+// A device with a flat battery is in no memory stage.
 fn stage_in_range(stage: Stage, kind: Kind, register: u8, left: u8) -> bool
     ensures { λ r. ⌜ r ≡ stageRange stage kind register left ⌝ }
 {
     match stage {
         Stage::Rom(r) => rom::in_range(r, register, left),
-        Stage::Memory(m) => memory_in_range(m, kind, left),
+        Stage::Memory(m) => !kind::is_flat(kind) & memory_in_range(m, kind, left),
+    }
+}
+
+impl Stepped {
+    // This is the number of bytes that were copied to memory in the slot; it is 0 where no copy was made, too.
+    pub fn bytes(self) -> u8
+        ensures { λ r. ⌜ r ≡ bytesCopied (self .copy) ⌝ }
+    {
+        let copy = self.copy;
+        match copy {
+            CopyDone::NoCopy => 0,
+            CopyDone::Made { address: _, bytes } => bytes,
+        }
     }
 }
 
 impl LineState {
-    // As a device is at the start of a run.
+    // Every device waits at the start of a run.
     pub fn waiting() -> LineState
         ensures { λ r. ⌜ r ≡ waitingState ⌝ }
     {
@@ -172,7 +226,7 @@ impl LineState {
         }
     }
 
-    // As a reset leaves every device.
+    // A reset leaves every device at the ROM command.
     pub fn at_reset() -> LineState
         ensures { λ r. ⌜ r ≡ resetState ⌝ }
     {
@@ -183,7 +237,7 @@ impl LineState {
 
     // ---- a line state as it is
 
-    // Whether no transfer is under way. A device that waits sends ones and stays as it is until a reset.
+    // A device waits while it has no transfer under way. It sends ones and stays as it is until a reset.
     pub fn waits(self) -> bool
         ensures { λ r. ⌜ r ≡ waits self ⌝ }
     {
@@ -191,7 +245,7 @@ impl LineState {
         transfer.left == 0
     }
 
-    // The level that the device sends in a slot.
+    // This is the level that the device sends in a slot.
     pub fn sends_as_is(self) -> bool
         ensures { λ r. ⌜ r ≡ sendsAsIs self ⌝ }
     {
@@ -199,7 +253,7 @@ impl LineState {
         line::sends(transfer)
     }
 
-    // Whether slots are left of the transfer after this one. Such a slot needs neither the kind nor the body, and
+    // A transfer goes on while the next slot is not its last. Such a slot needs neither the kind nor the body, and
     // changes no body.
     pub fn goes_on(self) -> bool
         ensures { λ r. ⌜ r ≡ goesOn (self .transfer) ⌝ }
@@ -208,7 +262,7 @@ impl LineState {
         line::goes_on(transfer)
     }
 
-    // The line state after a slot at a level that is not the last of the transfer.
+    // This is the line state after a slot at a level that is not the last of its transfer.
     pub fn shifted(self, level: bool) -> LineState
         ensures { λ r. ⌜ r ≡ lineState (shifted (self .transfer) level) ⌝ }
     {
@@ -218,9 +272,9 @@ impl LineState {
         }
     }
 
-    // The line state after a slot at a level.
+    // This is the line state after a slot at a level.
     pub fn step_as_is(self, kind: Kind, body: &[u8], level: bool) -> LineState
-        ensures { λ r. ⌜ r ≡ stateAsIs self kind (now (body .entry)) level ⌝ }
+        ensures { λ r. ⌜ r ≡ stateAfterSlotAsIs self kind (now (body .entry)) level ⌝ }
     {
         if self.goes_on() {
             return self.shifted(level);
@@ -233,22 +287,25 @@ impl LineState {
         }
     }
 
-    // Leaves the body as that slot does: only the last slot of a transfer can change it.
-    pub fn write_as_is(self, kind: Kind, body: &mut [u8], level: bool)
-        ensures { λ r. ⌜ now (body .exit) ≡ bodyAsIs self kind (now (body .entry)) level ⌝ }
+    // This is the line state after a slot at a level, and what a copy did in it; the body is changed as the slot does.
+    // Only the last slot of a transfer can change it.
+    pub fn slot_as_is(self, kind: Kind, body: &mut [u8], level: bool) -> Stepped
+        ensures { λ r. ⌜ (r ≡ stepped (stateAfterSlotAsIs self kind (now (body .entry)) level)
+            (copyInSlotAsIs self kind (now (body .entry)) level))
+            × (now (body .exit) ≡ bodyAfterSlotAsIs self kind (now (body .entry)) level) ⌝ }
     {
-        if self.goes_on() {
-            return;
-        }
         let transfer = self.transfer;
+        if self.goes_on() {
+            return stepped_to(line::shifted(transfer, level), CopyDone::NoCopy);
+        }
         let stage = transfer.stage;
         let value = bits::shift_in(transfer.register, level);
-        stage_write(stage, kind, value, body, level);
+        stage_end(stage, kind, value, body, level)
     }
 
-    // A reset: the line state after it; the body is left as it does.
+    // A reset changes the body by the stage in which it comes, and leaves the device at the ROM command.
     pub fn reset_as_is(self, body: &mut [u8]) -> LineState
-        ensures { λ r. ⌜ (r ≡ resetState) × (now (body .exit) ≡ resetAsIs self (now (body .entry))) ⌝ }
+        ensures { λ r. ⌜ (r ≡ resetState) × (now (body .exit) ≡ bodyAfterResetAsIs self (now (body .entry))) ⌝ }
     {
         let transfer = self.transfer;
         let stage = transfer.stage;
@@ -256,9 +313,9 @@ impl LineState {
         LineState::at_reset()
     }
 
-    // The line state after a program pulse.
+    // This is the line state after a program pulse.
     pub fn pulsed_as_is(self, body: &[u8]) -> LineState
-        ensures { λ r. ⌜ r ≡ pulseAsIs self (now (body .entry)) ⌝ }
+        ensures { λ r. ⌜ r ≡ stateAfterPulseAsIs self (now (body .entry)) ⌝ }
     {
         let transfer = self.transfer;
         let stage = transfer.stage;
@@ -267,10 +324,11 @@ impl LineState {
         }
     }
 
-    // A program pulse: the line state after it, which is worked out first; the body is left as it does.
+    // A program pulse changes the body, and this returns the line state after it, which is worked out first, from the
+    // body as it was.
     pub fn pulse_as_is(self, body: &mut [u8]) -> LineState
-        ensures { λ r. ⌜ (r ≡ pulseAsIs self (now (body .entry)))
-            × (now (body .exit) ≡ programAsIs self (now (body .entry))) ⌝ }
+        ensures { λ r. ⌜ (r ≡ stateAfterPulseAsIs self (now (body .entry)))
+            × (now (body .exit) ≡ bodyAfterPulseAsIs self (now (body .entry))) ⌝ }
     {
         let next = self.pulsed_as_is(body);
         let transfer = self.transfer;
@@ -281,9 +339,9 @@ impl LineState {
 
     // ---- any line state
 
-    // Whether it is one that the device can be in.
+    // A line state is in range if it is one that the device can be in.
     pub fn in_range(self, kind: Kind, body: &[u8]) -> bool
-        ensures { λ r. ⌜ r ≡ inRange self kind (now (body .entry)) ⌝ }
+        ensures { λ r. ⌜ r ≡ lineStateInRange self kind (now (body .entry)) ⌝ }
     {
         let transfer = self.transfer;
         let stage = transfer.stage;
@@ -291,9 +349,9 @@ impl LineState {
         sized & stage_in_range(stage, kind, transfer.register, transfer.left)
     }
 
-    // The line state, or waiting where it is not one that the device can be in.
-    pub fn taken(self, kind: Kind, body: &[u8]) -> LineState
-        ensures { λ r. ⌜ r ≡ taken self kind (now (body .entry)) ⌝ }
+    // A line state that the device cannot be in counts as waiting. The test stands in this one place.
+    pub fn or_waiting(self, kind: Kind, body: &[u8]) -> LineState
+        ensures { λ r. ⌜ r ≡ orWaiting self kind (now (body .entry)) ⌝ }
     {
         if self.in_range(kind, body) {
             self
@@ -302,49 +360,51 @@ impl LineState {
         }
     }
 
-    // The level that the device sends in a slot.
+    // This is the level that the device sends in a slot.
     pub fn sends(self, kind: Kind, body: &[u8]) -> bool
         ensures { λ r. ⌜ r ≡ sendsOf self kind (now (body .entry)) ⌝ }
     {
-        self.taken(kind, body).sends_as_is()
+        self.or_waiting(kind, body).sends_as_is()
     }
 
-    // The line state after a slot at a level.
+    // This is the line state after a slot at a level; the body is only read.
     pub fn step(self, kind: Kind, body: &[u8], level: bool) -> LineState
         ensures { λ r. ⌜ r ≡ stateAfterSlot self kind (now (body .entry)) level ⌝ }
     {
-        self.taken(kind, body).step_as_is(kind, body, level)
+        self.or_waiting(kind, body).step_as_is(kind, body, level)
     }
 
-    // Leaves the body as that slot does.
-    pub fn write(self, kind: Kind, body: &mut [u8], level: bool)
-        ensures { λ r. ⌜ now (body .exit) ≡ bodyAfterSlot self kind (now (body .entry)) level ⌝ }
+    // This is the line state after a slot at a level, and what a copy did in it; the body is changed as the slot does.
+    pub fn slot(self, kind: Kind, body: &mut [u8], level: bool) -> Stepped
+        ensures { λ r. ⌜ (r ≡ stepped (stateAfterSlot self kind (now (body .entry)) level)
+            (copyInSlot self kind (now (body .entry)) level))
+            × (now (body .exit) ≡ bodyAfterSlot self kind (now (body .entry)) level) ⌝ }
     {
-        let state = self.taken(kind, body);
-        state.write_as_is(kind, body, level);
+        let state = self.or_waiting(kind, body);
+        state.slot_as_is(kind, body, level)
     }
 
-    // A reset: the line state after it; the body is left as it does.
+    // A reset changes the body by the stage in which it comes, and leaves the device at the ROM command.
     pub fn reset(self, kind: Kind, body: &mut [u8]) -> LineState
         ensures { λ r. ⌜ (r ≡ resetState) × (now (body .exit) ≡ bodyAfterReset self kind (now (body .entry))) ⌝ }
     {
-        let state = self.taken(kind, body);
+        let state = self.or_waiting(kind, body);
         state.reset_as_is(body)
     }
 
-    // The line state after a program pulse.
+    // This is the line state after a program pulse; the body is only read.
     pub fn pulsed(self, kind: Kind, body: &[u8]) -> LineState
         ensures { λ r. ⌜ r ≡ stateAfterPulse self kind (now (body .entry)) ⌝ }
     {
-        self.taken(kind, body).pulsed_as_is(body)
+        self.or_waiting(kind, body).pulsed_as_is(body)
     }
 
-    // A program pulse: the line state after it; the body is left as it does.
+    // A program pulse changes the body, and this returns the line state after it.
     pub fn pulse(self, kind: Kind, body: &mut [u8]) -> LineState
         ensures { λ r. ⌜ (r ≡ stateAfterPulse self kind (now (body .entry)))
             × (now (body .exit) ≡ bodyAfterPulse self kind (now (body .entry))) ⌝ }
     {
-        let state = self.taken(kind, body);
+        let state = self.or_waiting(kind, body);
         state.pulse_as_is(body)
     }
 }

@@ -12,7 +12,7 @@ use Rattle.kind.specs.Kind.{codeLength, «data», dataLength}
 use Rattle.line.proofs.Range.{both}
 use Rattle.line.specs.declared.Field.{Field}
 use Rattle.line.specs.declared.Field.the-variants.{Data, Status}
-use Rattle.eprom.specs.Fields.{fieldStart, fieldLength, cut, bodyLength}
+use Rattle.eprom.specs.Fields.{fieldStart, fieldLength, cutAddress, bodyLength}
 use Rattle.eprom.specs.View.{fieldsFit, namesData}
 
 -- ---- the fields
@@ -46,12 +46,12 @@ within Data address h = omega arith
 within Status address h = omega arith
 
 -- a cut address is one of its field's
-pub cut-below : (field : Field) (address : ℕ) → cut field address < fieldLength field
-unfolding cut fieldLength
+pub cut-below : (field : Field) (address : ℕ) → cutAddress field address < fieldLength field
+unfolding cutAddress fieldLength
 cut-below Data address = omega arith
 cut-below Status address = omega arith
 
-pub cut-fits : (field : Field) (address : ℕ) → cut field address < dataLength
+pub cut-fits : (field : Field) (address : ℕ) → cutAddress field address < dataLength
 cut-fits field address = omega (arith, length-most field, cut-below field address)
 
 -- ---- the view
@@ -66,7 +66,7 @@ fit-lengths bytes status h =
 
 -- and a cut address lies within them
 pub cut-within : (bytes status : List ℕ) → fieldsFit bytes status ≡ true → (address : ℕ)
-    → (cut Data address ≤ length bytes) × (cut Status address ≤ length status)
+    → (cutAddress Data address ≤ length bytes) × (cutAddress Status address ≤ length status)
 cut-within bytes status h address =
     let fit = fit-lengths bytes status h in
     (omega (arith, fit .0, cut-below Data address), omega (arith, fit .1, cut-below Status address))

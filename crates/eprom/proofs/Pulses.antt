@@ -8,15 +8,15 @@ use lib.Bits.{bitAnd, and-zero-l}
 use lib.ListN.{length, getD, set, take, length-set}
 use lib.Seq.{getD-set-other, set-getD, take-set-le}
 use Rattle.kind.specs.Kind.{codeLength}
-use Rattle.line.specs.Transfers.{waiting, sends}
+use Rattle.line.specs.Transfers.{waiting, transferSends}
 use Rattle.line.specs.declared.Field.{Field}
 use Rattle.line.specs.declared.EpromStage.{EpromStage}
 use Rattle.line.specs.declared.EpromStage.the-variants.{ReadLow, ReadHigh, ReadCrc, ReadByte}
 use Rattle.line.specs.declared.EpromStage.the-variants.{WriteLow, WriteHigh, WriteData, WriteCrc, PulseDue, Stored}
 use Rattle.line.specs.declared.Transfer.{Transfer}
 use Rattle.bits.specs.Bit.{bitOf}
-use Rattle.eprom.specs.Fields.{fieldStart, stored}
-use Rattle.eprom.specs.Writes.{awaitPulse, protected, programmedByte, programmed}
+use Rattle.eprom.specs.Fields.{fieldStart, storedByte}
+use Rattle.eprom.specs.Writes.{awaitPulse, pageProtected, programmedByte, programmedBody}
 use Rattle.eprom.specs.Eprom.{epromNext, epromPulse, epromProgram}
 use Rattle.eprom.proofs.Laws.{start-least}
 
@@ -30,10 +30,10 @@ in-place f z (x ∷ xs) (suc i) = in-place f z xs i
 
 -- the byte that is then stored is the one that the pulse makes of it, for any address
 pub stored-programmed : (field : Field) (address byte : ℕ) (body : List ℕ)
-    → stored field address (programmed field address byte body) ≡ programmedByte field address byte body
-unfolding stored programmed programmedByte
+    → storedByte field address (programmedBody field address byte body) ≡ programmedByte field address byte body
+unfolding storedByte programmedBody programmedByte
 stored-programmed field address byte body =
-    let kept = protected field address body in
+    let kept = pageProtected field address body in
     in-place (λ (old : ℕ). cond kept old (bitAnd old byte)) (none kept) body (fieldStart field + address)
   where
     none : (t : Bool) → cond t 0 (bitAnd 0 byte) ≡ 0
@@ -41,14 +41,14 @@ stored-programmed field address byte body =
     none false = and-zero-l byte
 
 -- under protection nothing changes
-pub pulse-protected : (field : Field) (address byte : ℕ) (body : List ℕ) → protected field address body ≡ true
-    → programmed field address byte body ≡ body
-unfolding programmed programmedByte stored
+pub pulse-protected : (field : Field) (address byte : ℕ) (body : List ℕ) → pageProtected field address body ≡ true
+    → programmedBody field address byte body ≡ body
+unfolding programmedBody programmedByte storedByte
 pulse-protected field address byte body h = rw h (set-getD body (fieldStart field + address) 0)
 
 -- else the byte becomes its AND with the data
-pub pulse-stores : (field : Field) (address byte : ℕ) (body : List ℕ) → protected field address body ≡ false
-    → stored field address (programmed field address byte body) ≡ bitAnd (stored field address body) byte
+pub pulse-stores : (field : Field) (address byte : ℕ) (body : List ℕ) → pageProtected field address body ≡ false
+    → storedByte field address (programmedBody field address byte body) ≡ bitAnd (storedByte field address body) byte
 unfolding programmedByte
 pulse-stores field address byte body h = rw h at (stored-programmed field address byte body)
 
@@ -56,14 +56,14 @@ pulse-stores field address byte body h = rw h at (stored-programmed field addres
 
 -- every other byte stays as it was
 pub pulse-keeps : (field : Field) (address byte j : ℕ) (body : List ℕ) → (j ≡ fieldStart field + address → ⊥)
-    → getD (programmed field address byte body) j 0 ≡ getD body j 0
-unfolding programmed
+    → getD (programmedBody field address byte body) j 0 ≡ getD body j 0
+unfolding programmedBody
 pulse-keeps field address byte j body h = getD-set-other body (fieldStart field + address) j _ 0 h
 
 -- what holds of a body, and of it with any byte changed that is not of its registration code, holds after any pulse
 after-program : (P : List ℕ → Type 0) (e : EpromStage) (body : List ℕ) → P body
     → ((i v : ℕ) → codeLength ≤ i → P (set body i v)) → P (epromProgram e body)
-unfolding epromProgram programmed
+unfolding epromProgram programmedBody
 after-program P (ReadLow read) body same changed = same
 after-program P (ReadHigh read low) body same changed = same
 after-program P (ReadCrc read address) body same changed = same
@@ -88,8 +88,8 @@ program-code e body =
 
 -- a slot where a pulse is due is answered 1, and the device waits
 pub slot-due : (field : Field) (address byte value : ℕ) (body : List ℕ)
-    → (sends (awaitPulse field address byte) ≡ true) × (epromNext (PulseDue field address byte) value body ≡ waiting)
-unfolding sends bitOf epromNext
+    → (transferSends (awaitPulse field address byte) ≡ true) × (epromNext (PulseDue field address byte) value body ≡ waiting)
+unfolding transferSends bitOf epromNext
 slot-due field address byte value body = (refl, refl)
 
 -- a pulse elsewhere does nothing

@@ -14,9 +14,9 @@ use Rattle.line.specs.declared.EpromStage.{EpromStage}
 use Rattle.line.specs.declared.EpromStage.the-variants.{ReadLow, ReadHigh, ReadCrc, ReadByte}
 use Rattle.line.specs.declared.EpromStage.the-variants.{WriteLow, WriteHigh, WriteData, WriteCrc, PulseDue, Stored}
 use Rattle.line.specs.declared.Transfer.{Transfer}
-use Rattle.eprom.specs.Fields.{inEprom, fieldLength, fieldRead, addressOf, cut}
+use Rattle.eprom.specs.Fields.{inEprom, fieldLength, fieldRead, addressOf, cutAddress}
 use Rattle.eprom.specs.Reads.{sendByte, readLatch, afterCrc, endsSpan, afterByte}
-use Rattle.eprom.specs.Writes.{writeLatch, afterData, sendStored, nextPass}
+use Rattle.eprom.specs.Writes.{writeLatch, afterDataByte, sendStored, nextWritePass}
 use Rattle.eprom.specs.Eprom.{epromCommand, epromNext, epromPulse, epromRange}
 use Rattle.line.proofs.Range.{both, fewer, fewer-beside, slot-left, slot-left-beside}
 use Rattle.eprom.proofs.Laws.{cut-below}
@@ -72,10 +72,10 @@ after-byte read a crc body =
 
 pub next-ranged : (e : EpromStage) (left value : ℕ) (body : List ℕ) → epromRange e left ≡ true
     → Ranged (epromNext e value body)
-unfolding epromNext readLatch afterCrc sendByte writeLatch afterData nextPass epromRange
+unfolding epromNext readLatch afterCrc sendByte writeLatch afterDataByte nextWritePass epromRange
 next-ranged (ReadLow read) left value body h = begins (ReadHigh read value) refl
 next-ranged (ReadHigh read low) left value body h =
-    let a = cut (fieldRead read) (addressOf low value) in
+    let a = cutAddress (fieldRead read) (addressOf low value) in
     let n = fieldLength (fieldRead read) in
     let k : a ≤ n = omega (arith, cut-below (fieldRead read) (addressOf low value)) in
     begins (ReadCrc read a) (rw (le-leb a n k))

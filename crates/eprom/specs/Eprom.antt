@@ -1,6 +1,7 @@
--- Document 01, 'DS1982 memory stage': which transfer a memory command begins, which one follows when the last slot of a
--- transfer is through, what a program pulse does, and the range of each stage's numbers. A stage is taken as it is:
--- that its numbers are in range and that its body has 144 bytes is for the crate `device` to see to.
+-- Document 01, 'DS1982 memory stage', is stated here: which transfer a memory command begins, which one follows after
+-- the last slot of a transfer, what a program pulse does, and the range of each stage's numbers. These definitions do
+-- not test the numbers of a stage: the crate `device` sees to it that they are in range and that the body has 144
+-- bytes.
 use Prim.Native.Nat.{ℕ}
 use mathlib.Core.Bool.{Bool, cond, _&&_}
 use mathlib.Core.List.{List}
@@ -14,10 +15,11 @@ use Rattle.line.specs.declared.EpromStage.the-variants.{WriteData, WriteCrc, Pu
 use Rattle.line.specs.declared.Transfer.{Transfer}
 use Rattle.eprom.specs.Fields.{fieldLength, fieldRead, addressOf}
 use Rattle.eprom.specs.Reads.{readLow, readHigh, readLatch, afterCrc, afterByte}
-use Rattle.eprom.specs.Writes.{writeLow, writeHigh, writeLatch, afterData, awaitPulse, programmed, sendStored}
-use Rattle.eprom.specs.Writes.{nextPass}
+use Rattle.eprom.specs.Writes.{writeLow, writeHigh, writeLatch, afterDataByte, awaitPulse, programmedBody}
+use Rattle.eprom.specs.Writes.{sendStored}
+use Rattle.eprom.specs.Writes.{nextWritePass}
 
--- what a command leads to; one that is not listed makes the device wait
+-- A memory command leads to the first transfer of its function; one that is not listed makes the device wait.
 unfoldable pub epromCommand : ℕ → Transfer
 epromCommand value =
     cond (eqb value 0xF0) (readLow ReadMemory)
@@ -26,7 +28,8 @@ epromCommand value =
     (cond (eqb value 0x0F) (writeLow Data)
     (cond (eqb value 0x55) (writeLow Status) waiting))))
 
--- the transfer after that of a stage, in which `value` was received; a slot where a pulse is due makes the device wait
+-- When the transfer of a stage ends, in which `value` was received, this transfer follows it. A slot where a pulse is
+-- due makes the device wait.
 unfoldable pub epromNext : EpromStage → ℕ → List ℕ → Transfer
 epromNext (ReadLow read) value body = readHigh read value
 epromNext (ReadHigh read low) value body = readLatch read (addressOf low value)
@@ -34,12 +37,12 @@ epromNext (ReadCrc read address) value body = afterCrc read address body
 epromNext (ReadByte read address crc) value body = afterByte read address crc body
 epromNext (WriteLow field) value body = writeHigh field value
 epromNext (WriteHigh field low) value body = writeLatch field (addressOf low value)
-epromNext (WriteData field address crc) value body = afterData field address crc value
+epromNext (WriteData field address crc) value body = afterDataByte field address crc value
 epromNext (WriteCrc field address byte) value body = awaitPulse field address byte
 epromNext (PulseDue field address byte) value body = waiting
-epromNext (Stored field address) value body = nextPass field address
+epromNext (Stored field address) value body = nextWritePass field address
 
--- the transfer after a pulse: where one is due, the byte is sent as it is then stored; elsewhere a pulse does nothing
+-- After a pulse where one is due, the device sends the byte as it is then stored; elsewhere a pulse does nothing.
 unfoldable pub epromPulse : EpromStage → Transfer → List ℕ → Transfer
 epromPulse (ReadLow read) transfer body = transfer
 epromPulse (ReadHigh read low) transfer body = transfer
@@ -49,10 +52,11 @@ epromPulse (WriteLow field) transfer body = transfer
 epromPulse (WriteHigh field low) transfer body = transfer
 epromPulse (WriteData field address crc) transfer body = transfer
 epromPulse (WriteCrc field address byte) transfer body = transfer
-epromPulse (PulseDue field address byte) transfer body = sendStored field address (programmed field address byte body)
+epromPulse (PulseDue field address byte) transfer body =
+    sendStored field address (programmedBody field address byte body)
 epromPulse (Stored field address) transfer body = transfer
 
--- the body after a program pulse
+-- A program pulse changes the body only where one is due.
 unfoldable pub epromProgram : EpromStage → List ℕ → List ℕ
 epromProgram (ReadLow read) body = body
 epromProgram (ReadHigh read low) body = body
@@ -62,10 +66,11 @@ epromProgram (WriteLow field) body = body
 epromProgram (WriteHigh field low) body = body
 epromProgram (WriteData field address crc) body = body
 epromProgram (WriteCrc field address byte) body = body
-epromProgram (PulseDue field address byte) body = programmed field address byte body
+epromProgram (PulseDue field address byte) body = programmedBody field address byte body
 epromProgram (Stored field address) body = body
 
--- the range of a transfer's numbers, by its stage: an address lies inside its field, after a CRC it may be its end
+-- The numbers of a stage are in range if the address lies inside its field; the address after a CRC may be the field's
+-- end.
 unfoldable pub epromRange : EpromStage → ℕ → Bool
 epromRange (ReadLow read) left = underWay 8 left
 epromRange (ReadHigh read low) left = underWay 8 left

@@ -1,5 +1,5 @@
-// The two fields of a DS1982: where they stand in the body, the commands that read and write them, and the addresses in
-// them.
+// This module is the two fields of a DS1982: where they are in the body, the commands that read and write them, and the
+// addresses in them.
 use kind::DATA_LENGTH;
 use kind::STATUS_LENGTH;
 use line::EpromRead;
@@ -8,17 +8,17 @@ use line::Field;
 use line::MemoryStage;
 use line::Stage;
 ghost use mathlib.Core.Path.{_≡_};
-ghost use Rattle.eprom.specs.Fields.{inEprom, fieldStart, fieldLength, stored, fieldRead, readCommand};
-ghost use Rattle.eprom.specs.Fields.{writeCommand, addressOf, cut, commandCrc};
+ghost use Rattle.eprom.specs.Fields.{inEprom, fieldStart, fieldLength, storedByte, fieldRead, readCommand};
+ghost use Rattle.eprom.specs.Fields.{writeCommand, addressOf, cutAddress, commandCrc};
 
-// A stage of a DS1982's memory function as a stage of a device.
+// A stage of a DS1982's memory function is a stage of a device.
 pub(crate) fn in_eprom(e: EpromStage) -> Stage
     ensures { λ r. ⌜ r ≡ inEprom e ⌝ }
 {
     Stage::Memory(MemoryStage::Eprom(e))
 }
 
-// A field's first byte in the body.
+// This is where a field's first byte is in the body.
 pub(crate) fn field_start(field: Field) -> usize
     ensures { λ r. ⌜ r ≡ fieldStart field ⌝ }
 {
@@ -28,7 +28,7 @@ pub(crate) fn field_start(field: Field) -> usize
     }
 }
 
-// How many bytes a field has.
+// This is how many bytes a field has.
 pub(crate) fn field_length(field: Field) -> u8
     ensures { λ r. ⌜ r ≡ fieldLength field ⌝ }
 {
@@ -38,14 +38,14 @@ pub(crate) fn field_length(field: Field) -> u8
     }
 }
 
-// The byte of a field at an address.
+// This is the byte of a field at an address.
 pub(crate) fn stored(field: Field, address: u8, body: &[u8]) -> u8
-    ensures { λ r. ⌜ r ≡ stored field address (now (body .entry)) ⌝ }
+    ensures { λ r. ⌜ r ≡ storedByte field address (now (body .entry)) ⌝ }
 {
     bits::byte_at(body, field_start(field) + address as usize)
 }
 
-// The field that a read sends.
+// This is the field that a read sends.
 pub(crate) fn field_read(read: EpromRead) -> Field
     ensures { λ r. ⌜ r ≡ fieldRead read ⌝ }
 {
@@ -75,21 +75,21 @@ pub(crate) fn write_command(field: Field) -> u8
     }
 }
 
-// An address by its two bytes.
+// The two bytes of an address are received with the low one first.
 pub(crate) fn address_of(low: u8, high: u8) -> u16
     ensures { λ r. ⌜ r ≡ addressOf low high ⌝ }
 {
     low as u16 + 256 * (high as u16)
 }
 
-// An address cut to its field.
+// An address is cut to its field as it is latched.
 pub(crate) fn cut(field: Field, address: u16) -> u16
-    ensures { λ r. ⌜ r ≡ cut field address ⌝ }
+    ensures { λ r. ⌜ r ≡ cutAddress field address ⌝ }
 {
     address % field_length(field) as u16
 }
 
-// The CRC of a command and the two bytes of an address.
+// This is the CRC of a command and of the two bytes of an address, which is the cut one.
 pub(crate) fn command_crc(code: u8, address: u16) -> u8
     ensures { λ r. ⌜ r ≡ commandCrc code address ⌝ }
 {

@@ -1,8 +1,8 @@
-// The DS1982's memory stage: which transfer a memory command begins, which follows when the last slot of a transfer is
-// through, what a program pulse does, and the view of the bytes still to be read.
+// This crate is the DS1982's memory stage: which transfer a memory command begins, which follows after the last slot of
+// a transfer, what a program pulse does, and the view of the bytes still to be read.
 //
-// The end of a transfer only reads the body; a pulse has two sides that are functions of their own: `pulse` is the
-// transfer after it and only reads the body, `program` is the body after it.
+// The end of a transfer only reads the body. A pulse is two functions: `pulse` returns the transfer after it and only
+// reads the body, `program` changes the body.
 mod fields;
 mod reads;
 mod view;
@@ -19,7 +19,7 @@ pub use view::remaining;
 ghost use mathlib.Core.Path.{_≡_};
 ghost use Rattle.eprom.specs.Eprom.{epromCommand, epromNext, epromPulse, epromProgram, epromRange};
 
-// What a command leads to.
+// A memory command leads to the first transfer of its function, and any other command to waiting.
 pub fn command(value: u8) -> Transfer
     ensures { λ r. ⌜ r ≡ epromCommand value ⌝ }
 {
@@ -33,8 +33,8 @@ pub fn command(value: u8) -> Transfer
     }
 }
 
-// The transfer after that of a stage, in which `value` was received. Where a pulse is due, a slot that comes instead
-// makes the device wait.
+// When the transfer of a stage ends, in which `value` was received, this transfer follows it. A slot where a pulse is
+// due makes the device wait.
 pub fn next(e: EpromStage, value: u8, body: &[u8]) -> Transfer
     ensures { λ r. ⌜ r ≡ epromNext e value (now (body .entry)) ⌝ }
 {
@@ -60,8 +60,8 @@ pub fn next(e: EpromStage, value: u8, body: &[u8]) -> Transfer
     }
 }
 
-// The transfer after a program pulse, worked out before the body changes; `transfer` is the one under way in this
-// stage.
+// This is the transfer after a program pulse, worked out before the body changes; `transfer` is the one under way in
+// this stage.
 pub fn pulse(e: EpromStage, transfer: Transfer, body: &[u8]) -> Transfer
     ensures { λ r. ⌜ r ≡ epromPulse e transfer (now (body .entry)) ⌝ }
 {
@@ -83,7 +83,7 @@ pub fn pulse(e: EpromStage, transfer: Transfer, body: &[u8]) -> Transfer
     }
 }
 
-// Leaves the body as a program pulse does.
+// A program pulse changes the body only where one is due.
 pub fn program(e: EpromStage, body: &mut [u8])
     ensures { λ r. ⌜ now (body .exit) ≡ epromProgram e (now (body .entry)) ⌝ }
 {
@@ -105,7 +105,7 @@ pub fn program(e: EpromStage, body: &mut [u8])
     }
 }
 
-// Whether the numbers of a transfer in this stage are in its range.
+// This tells whether the numbers of a transfer in this stage are in their range.
 pub fn in_range(e: EpromStage, left: u8) -> bool
     ensures { λ r. ⌜ r ≡ epromRange e left ⌝ }
 {

@@ -1,5 +1,6 @@
-// The reads F0h, AAh and C3h: a CRC, then bytes to the field's end and their CRC, with C3h page by page. The CRC
-// generator takes a whole byte when its transfer begins, so that the end of a transfer need not read the byte again.
+// The reads F0h, AAh and C3h send a CRC, then bytes to the field's end and their CRC, with C3h page by page. A whole
+// byte is shifted into the CRC generator when its transfer begins, so that the end of a transfer need not read the byte
+// again.
 use crate::fields::command_crc;
 use crate::fields::cut;
 use crate::fields::field_length;
@@ -17,28 +18,28 @@ ghost use mathlib.Core.Path.{_≡_};
 ghost use Rattle.eprom.specs.Reads.{readLow, readHigh, sendCrc, sendByte, readLatch, afterCrc, endsSpan};
 ghost use Rattle.eprom.specs.Reads.{afterByte};
 
-// Receives the low byte of the address.
+// The device receives the low byte of the address.
 pub(crate) fn read_low(read: EpromRead) -> Transfer
     ensures { λ r. ⌜ r ≡ readLow read ⌝ }
 {
     line::listening(in_eprom(EpromStage::ReadLow { read }))
 }
 
-// Receives the high byte of the address.
+// The device receives the high byte of the address.
 pub(crate) fn read_high(read: EpromRead, low: u8) -> Transfer
     ensures { λ r. ⌜ r ≡ readHigh read low ⌝ }
 {
     line::listening(in_eprom(EpromStage::ReadHigh { read, low }))
 }
 
-// Sends a CRC; the byte at `address` comes after it.
+// The device sends a CRC; the byte at `address` comes after it.
 fn send_crc(read: EpromRead, address: u8, crc: u8) -> Transfer
     ensures { λ r. ⌜ r ≡ sendCrc read address crc ⌝ }
 {
     line::sending(in_eprom(EpromStage::ReadCrc { read, address }), crc)
 }
 
-// Sends the byte at `address`; `crc` is the CRC of those before it.
+// The device sends the byte at `address`; `crc` is the CRC of those before it.
 fn send_byte(read: EpromRead, address: u8, crc: u8, body: &[u8]) -> Transfer
     ensures { λ r. ⌜ r ≡ sendByte read address crc (now (body .entry)) ⌝ }
 {
@@ -54,7 +55,7 @@ fn send_byte(read: EpromRead, address: u8, crc: u8, body: &[u8]) -> Transfer
     )
 }
 
-// The address was received: it is cut, and the CRC of the command and the cut address is sent.
+// Once the address is received it is cut, and the CRC of the command and the cut address is sent.
 pub(crate) fn read_latch(read: EpromRead, address: u16) -> Transfer
     ensures { λ r. ⌜ r ≡ readLatch read address ⌝ }
 {
@@ -63,7 +64,7 @@ pub(crate) fn read_latch(read: EpromRead, address: u16) -> Transfer
     send_crc(read, start as u8, crc)
 }
 
-// A CRC was sent: past the field's end come ones.
+// After a CRC come the bytes from `address` on, or past the field's end ones.
 pub(crate) fn after_crc(read: EpromRead, address: u8, body: &[u8]) -> Transfer
     ensures { λ r. ⌜ r ≡ afterCrc read address (now (body .entry)) ⌝ }
 {
@@ -74,7 +75,7 @@ pub(crate) fn after_crc(read: EpromRead, address: u8, body: &[u8]) -> Transfer
     }
 }
 
-// Whether a CRC comes before the byte at `next`, which would be past the field's end, or with C3h past the page's.
+// A CRC comes before the byte at `next` where that would be past the field's end, or with C3h past the page's.
 fn ends_span(read: EpromRead, next: u8) -> bool
     ensures { λ r. ⌜ r ≡ endsSpan read next ⌝ }
 {
@@ -85,7 +86,7 @@ fn ends_span(read: EpromRead, next: u8) -> bool
     }
 }
 
-// A byte was sent: the next one follows, or `crc`, which has taken in all bytes since the last CRC.
+// After a byte comes the next one, or `crc`, which is the CRC of all bytes since the last CRC.
 pub(crate) fn after_byte(read: EpromRead, address: u8, crc: u8, body: &[u8]) -> Transfer
     ensures { λ r. ⌜ r ≡ afterByte read address crc (now (body .entry)) ⌝ }
 {

@@ -1,4 +1,4 @@
-// The view of the bytes that a read has still to send.
+// This module is the view of the bytes that a read has still to send.
 use crate::fields::cut;
 use kind::DATA_LENGTH;
 use kind::STATUS_LENGTH;
@@ -6,14 +6,14 @@ use line::Field;
 ghost use mathlib.Core.Path.{_≡_};
 ghost use Rattle.eprom.specs.View.{fieldsFit, bytesToRead, placeToRead};
 
-// Whether the fields have the lengths of a DS1982's.
+// This tells whether the fields have the lengths of a DS1982's.
 fn fields_fit(data: &[u8], status: &[u8]) -> bool
     ensures { λ r. ⌜ r ≡ fieldsFit (now («data» .entry)) (now (status .entry)) ⌝ }
 {
     (data.len() == DATA_LENGTH as usize) & (status.len() == STATUS_LENGTH as usize)
 }
 
-// The bytes still to be read from a start address, as the very part of one of the two fields. An empty part may lie
+// The bytes still to be read from a start address are the very part of one of the two fields. An empty part may lie
 // anywhere.
 pub fn remaining<'a>(command: u8, address: u16, data: &'a [u8], status: &'a [u8]) -> &'a [u8]
     ensures { λ r. ⌜ (now r ≡ bytesToRead command address (now («data» .entry)) (now (status .entry)))

@@ -1,4 +1,5 @@
-// The writes 0Fh and 55h: the address, then pass by pass a data byte, its CRC, the program pulse and the stored byte.
+// The writes 0Fh and 55h receive the address, and then in each pass a data byte; its CRC is sent, the program pulse is
+// due, and the stored byte is sent.
 use crate::fields::command_crc;
 use crate::fields::cut;
 use crate::fields::field_length;
@@ -11,26 +12,26 @@ use line::EpromStage;
 use line::Field;
 use line::Transfer;
 ghost use mathlib.Core.Path.{_≡_};
-ghost use Rattle.eprom.specs.Writes.{writeLow, writeHigh, writeData, writeLatch, afterData, awaitPulse};
-ghost use Rattle.eprom.specs.Writes.{protected, programmedByte, programmed, sendStored, nextPass};
+ghost use Rattle.eprom.specs.Writes.{writeLow, writeHigh, writeDataByte, writeLatch, afterDataByte, awaitPulse};
+ghost use Rattle.eprom.specs.Writes.{pageProtected, programmedByte, programmedBody, sendStored, nextWritePass};
 
-// Receives the low byte of the address.
+// The device receives the low byte of the address.
 pub(crate) fn write_low(field: Field) -> Transfer
     ensures { λ r. ⌜ r ≡ writeLow field ⌝ }
 {
     line::listening(in_eprom(EpromStage::WriteLow { field }))
 }
 
-// Receives the high byte of the address.
+// The device receives the high byte of the address.
 pub(crate) fn write_high(field: Field, low: u8) -> Transfer
     ensures { λ r. ⌜ r ≡ writeHigh field low ⌝ }
 {
     line::listening(in_eprom(EpromStage::WriteHigh { field, low }))
 }
 
-// Receives a data byte, which the CRC register `crc` then takes in.
+// The device receives a data byte, which is then shifted into the CRC register `crc`.
 fn write_data(field: Field, address: u8, crc: u8) -> Transfer
-    ensures { λ r. ⌜ r ≡ writeData field address crc ⌝ }
+    ensures { λ r. ⌜ r ≡ writeDataByte field address crc ⌝ }
 {
     line::listening(in_eprom(EpromStage::WriteData {
         field,
@@ -39,7 +40,8 @@ fn write_data(field: Field, address: u8, crc: u8) -> Transfer
     }))
 }
 
-// The address was received: it is cut, and the first data byte comes next, after the command and the cut address.
+// Once the address is received it is cut, and the first data byte comes next; the CRC begins with the command and the
+// cut address.
 pub(crate) fn write_latch(field: Field, address: u16) -> Transfer
     ensures { λ r. ⌜ r ≡ writeLatch field address ⌝ }
 {
@@ -48,9 +50,9 @@ pub(crate) fn write_latch(field: Field, address: u16) -> Transfer
     write_data(field, start as u8, crc)
 }
 
-// A data byte was received: its CRC is sent.
+// After a data byte its CRC is sent.
 pub(crate) fn after_data(field: Field, address: u8, crc: u8, byte: u8) -> Transfer
-    ensures { λ r. ⌜ r ≡ afterData field address crc byte ⌝ }
+    ensures { λ r. ⌜ r ≡ afterDataByte field address crc byte ⌝ }
 {
     line::sending(
         in_eprom(EpromStage::WriteCrc {
@@ -62,7 +64,7 @@ pub(crate) fn after_data(field: Field, address: u8, crc: u8, byte: u8) -> Transf
     )
 }
 
-// A CRC was sent: a program pulse is due.
+// After a CRC a program pulse is due, and a slot that comes instead reads 1.
 pub(crate) fn await_pulse(field: Field, address: u8, byte: u8) -> Transfer
     ensures { λ r. ⌜ r ≡ awaitPulse field address byte ⌝ }
 {
@@ -73,9 +75,9 @@ pub(crate) fn await_pulse(field: Field, address: u8, byte: u8) -> Transfer
     }))
 }
 
-// Whether the byte at an address is one that no pulse changes.
+// A protected byte is one of the data that no pulse changes, as the bit of its page in status byte 0 is 0.
 fn protected(field: Field, address: u8, body: &[u8]) -> bool
-    ensures { λ r. ⌜ r ≡ protected field address (now (body .entry)) ⌝ }
+    ensures { λ r. ⌜ r ≡ pageProtected field address (now (body .entry)) ⌝ }
 {
     match field {
         Field::Data => !bits::bit_of(stored(Field::Status, 0, body), address / PAGE_LENGTH),
@@ -83,7 +85,7 @@ fn protected(field: Field, address: u8, body: &[u8]) -> bool
     }
 }
 
-// What a pulse makes of the byte at an address.
+// A pulse replaces the byte at an address by its AND with the data byte, unless it is protected.
 fn programmed_byte(field: Field, address: u8, byte: u8, body: &[u8]) -> u8
     ensures { λ r. ⌜ r ≡ programmedByte field address byte (now (body .entry)) ⌝ }
 {
@@ -95,17 +97,18 @@ fn programmed_byte(field: Field, address: u8, byte: u8, body: &[u8]) -> u8
     }
 }
 
-// Leaves the body as a pulse does at an address.
+// This changes the body as a pulse does at an address.
 pub(crate) fn program_byte(field: Field, address: u8, byte: u8, body: &mut [u8])
-    ensures { λ r. ⌜ now (body .exit) ≡ programmed field address byte (now (body .entry)) ⌝ }
+    ensures { λ r. ⌜ now (body .exit) ≡ programmedBody field address byte (now (body .entry)) ⌝ }
 {
     let new = programmed_byte(field, address, byte, body);
     bits::put_byte(body, field_start(field) + address as usize, new);
 }
 
-// Sends the byte at an address as a pulse leaves it, while the body does not have it yet.
+// The device sends the byte at an address as a pulse leaves it. This is worked out while the body does not have that
+// byte yet.
 pub(crate) fn send_programmed(field: Field, address: u8, byte: u8, body: &[u8]) -> Transfer
-    ensures { λ r. ⌜ r ≡ sendStored field address (programmed field address byte (now (body .entry))) ⌝ }
+    ensures { λ r. ⌜ r ≡ sendStored field address (programmedBody field address byte (now (body .entry))) ⌝ }
 {
     line::sending(
         in_eprom(EpromStage::Stored { field, address }),
@@ -113,10 +116,10 @@ pub(crate) fn send_programmed(field: Field, address: u8, byte: u8, body: &[u8]) 
     )
 }
 
-// The stored byte was sent: the next pass begins, with the CRC register loaded with the new address. After the last
-// address comes none.
+// After the stored byte the next pass begins, with the CRC register loaded with the new address. After the last address
+// there is no next pass.
 pub(crate) fn next_pass(field: Field, address: u8) -> Transfer
-    ensures { λ r. ⌜ r ≡ nextPass field address ⌝ }
+    ensures { λ r. ⌜ r ≡ nextWritePass field address ⌝ }
 {
     let last = field_length(field) - 1;
     if address < last {

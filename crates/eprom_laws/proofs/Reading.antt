@@ -17,13 +17,13 @@ use Rattle.line.specs.declared.Field.the-variants.{Data, Status}
 use Rattle.line.specs.declared.EpromRead.{EpromRead}
 use Rattle.line.specs.declared.EpromRead.the-variants.{Memory as ReadMemory, Status as ReadStatus, Pages as ReadPages}
 use Rattle.line.specs.declared.EpromStage.the-variants.{ReadLow, ReadHigh, ReadCrc, ReadByte}
-use Rattle.eprom.specs.Fields.{fieldStart, fieldLength, bodyLength, stored, fieldRead, readCommand, addressOf, cut}
+use Rattle.eprom.specs.Fields.{fieldStart, fieldLength, bodyLength, storedByte, fieldRead, readCommand, addressOf, cutAddress}
 use Rattle.eprom.specs.Fields.{commandCrc}
 use Rattle.eprom.specs.Reads.{readLow, sendCrc, sendByte, readLatch, afterCrc, endsSpan, afterByte}
 use Rattle.eprom.specs.Eprom.{epromCommand, epromNext}
 use Rattle.eprom.proofs.Laws.{cut-below}
-use Rattle.eprom_laws.specs.Events.{deviceAt, byte, lineBytes, Over}
-use Rattle.eprom_laws.specs.Sent.{fieldOf, withCrc, pageByPage, readBytes, readSent}
+use Rattle.eprom_laws.specs.Events.{epromDevice, byte, lineBytes, SendsOver}
+use Rattle.eprom_laws.specs.Reads.{fieldOf, withCrc, pageByPage, readBytes, bytesOfRead}
 use Rattle.eprom_laws.proofs.Exchanges.{heard-then, Sends, none, last, sends-then, sent-over}
 
 read-command : (read : EpromRead) → epromCommand (readCommand read) ≡ readLow read
@@ -79,8 +79,8 @@ module _ (body : List ℕ) (sized : length body ≡ bodyLength) where
 
   -- one more byte of a field
   field-next : (field : Field) (a : ℕ) → a < fieldLength field
-      → drop a (fieldOf field body) ≡ stored field a body ∷ drop (a + 1) (fieldOf field body)
-  unfolding stored fieldOf
+      → drop a (fieldOf field body) ≡ storedByte field a body ∷ drop (a + 1) (fieldOf field body)
+  unfolding storedByte fieldOf
   field-next field a h =
       let k : a < length (fieldOf field body) = rw (field-length field) h in
       let start = fieldStart field in
@@ -97,14 +97,14 @@ module _ (body : List ℕ) (sized : length body ≡ bodyLength) where
 
     -- a byte that is not the last of its span, and the last one
     byte-goes-on : (a r : ℕ) → a < fieldLength (fieldRead read) → endsSpan read (a + 1) ≡ false
-        → Sends body (sendByte read a r body) (stored (fieldRead read) a body ∷ [])
-        (sendByte read (a + 1) (crcByte r (stored (fieldRead read) a body)) body)
+        → Sends body (sendByte read a r body) (storedByte (fieldRead read) a body ∷ [])
+        (sendByte read (a + 1) (crcByte r (storedByte (fieldRead read) a body)) body)
     unfolding sendByte epromNext afterByte
     byte-goes-on a r h n = last (ReadByte read a _) (λ d. simp (lt-ltb _ _ h, n))
 
     byte-ends : (a r : ℕ) → a < fieldLength (fieldRead read) → endsSpan read (a + 1) ≡ true
-        → Sends body (sendByte read a r body) (stored (fieldRead read) a body ∷ [])
-        (sendCrc read (a + 1) (crcByte r (stored (fieldRead read) a body)))
+        → Sends body (sendByte read a r body) (storedByte (fieldRead read) a body ∷ [])
+        (sendCrc read (a + 1) (crcByte r (storedByte (fieldRead read) a body)))
     unfolding sendByte epromNext afterByte
     byte-ends a r h e = last (ReadByte read a _) (λ d. simp (lt-ltb _ _ h, e))
 
@@ -116,7 +116,7 @@ module _ (body : List ℕ) (sized : length body ≡ bodyLength) where
     span-sent zero a r h = rw (field-next (fieldRead read) a (h .0)) (byte-ends a r (h .0) (last-left read a h))
     span-sent (suc n) a r h =
         let m = more-left read a n h in
-        let x = crcByte r (stored (fieldRead read) a body) in
+        let x = crcByte r (storedByte (fieldRead read) a body) in
         let e : a + 1 + suc n ≡ a + suc (suc n) = omega arith in
         rw (field-next (fieldRead read) a (h .0))
         (sends-then (byte-goes-on a r (h .0) (m .0)) (rw e at (span-sent n (a + 1) x (m .1))))
@@ -177,10 +177,10 @@ module _ (body : List ℕ) (sized : length body ≡ bodyLength) where
 
   -- from the second address byte on
   read-sends : (read : EpromRead) (address : ℕ)
-      → Sends body (readLatch read address) (readSent read (cut (fieldRead read) address) body) waiting
-  unfolding readLatch readSent afterCrc
+      → Sends body (readLatch read address) (bytesOfRead read (cutAddress (fieldRead read) address) body) waiting
+  unfolding readLatch bytesOfRead afterCrc
   read-sends read address =
-      let a = cut (fieldRead read) address in
+      let a = cutAddress (fieldRead read) address in
       let h = cut-below (fieldRead read) address in
       let first = crc-sent read a (commandCrc (readCommand read) a) in
       sends-then (rw (lt-ltb a (fieldLength (fieldRead read)) h) at first) (bytes-sent read a h)
@@ -189,9 +189,9 @@ module _ (body : List ℕ) (sized : length body ≡ bodyLength) where
   -- address bytes come in; then what a read sends from the cut address on. Then the device waits, and its body is as it
   -- was. `ones-law` says what it sends from there on
   pub read-law : (read : EpromRead) (low high : ℕ) → low < 256 → high < 256 → (lines : List ℕ)
-      → length lines ≡ length (readSent read (cut (fieldRead read) (addressOf low high)) body)
-      → Over (deviceAt (epromCommand (readCommand read)) body) (byte low ∷ byte high ∷ lineBytes lines)
-      (0xFF ∷ 0xFF ∷ readSent read (cut (fieldRead read) (addressOf low high)) body) (deviceAt waiting body)
+      → length lines ≡ length (bytesOfRead read (cutAddress (fieldRead read) (addressOf low high)) body)
+      → SendsOver (epromDevice (epromCommand (readCommand read)) body) (byte low ∷ byte high ∷ lineBytes lines)
+      (0xFF ∷ 0xFF ∷ bytesOfRead read (cutAddress (fieldRead read) (addressOf low high)) body) (epromDevice waiting body)
   unfolding epromNext
   read-law read low high h k lines e =
       rw (read-command read)

@@ -10,12 +10,13 @@ use lib.ListN.{length, getD, take, drop, length-take, length-drop}
 use lib.Seq.{take-take, ext-getD}
 use lib.Dec.{eqb, ltb}
 use borrow.Author.Tests.{ltb-false, le-ltb, eqb-true, eq-eqb, not-true, not-false}
-use Rattle.bits.specs.Crc.{registered, crcOf}
+use Rattle.bits.specs.Crc.{registrationCheck, crcOf}
 use Rattle.kind.specs.declared.Kind.{Kind}
 use Rattle.kind.specs.declared.Kind.the-variants.{Sram, Eprom, Unknown}
 use Rattle.kind.specs.Kind.{bodySize, codeLength, isUnknown}
 use Rattle.image.specs.Image.{countOf, editionOf, familyAt, secondAt, offsetAt, kindAt, packedAt, bodyAt, codeAt}
-use Rattle.image.specs.Refusal.{someBelow, equalBytes, firstOf, entryMalformed, malformed, misplaced, codeRefused, miscoded, repeated, doubled, imageCauses, imageRefusal}
+use Rattle.image.specs.Refusal.{someBelow, equalBytes, firstCause, editionKnown, batteryMalformed}
+use Rattle.image.specs.Refusal.{entryMalformed, imageMalformed, bodyMisplaced, codeRefused, someCodeRefused, codeRepeated, someCodeRepeated, imageCauses, imageRefusal}
 
 -- ---- tests
 
@@ -76,81 +77,81 @@ same-bytes n xs ys e =
 pub record Known (image : List ℕ) : Type 0 where
   pub entries : 2 + 4 * countOf image ≤ length image
   pub few : countOf image ≤ 64
-  pub edition : editionOf image ≡ 1
-  pub second : (i : ℕ) → i < countOf image → secondAt image i ≡ 0
+  pub edition : editionKnown (editionOf image) ≡ true
+  pub battery : (i : ℕ) → i < countOf image → batteryMalformed (editionOf image) (secondAt image i) (kindAt image i) ≡ false
   pub kind : (i : ℕ) → i < countOf image → isUnknown (kindAt image i) ≡ false
   pub placed : (i : ℕ) → i < countOf image → offsetAt image i ≡ packedAt image i
   pub whole : length image ≡ packedAt image (countOf image)
-  pub code : (i : ℕ) → i < countOf image → registered (codeAt image i) ≡ true
+  pub code : (i : ℕ) → i < countOf image → registrationCheck (codeAt image i) ≡ true
   pub family : (i : ℕ) → i < countOf image → getD (codeAt image i) 0 0 ≡ familyAt image i
   pub distinct : (i j : ℕ) → i < j → j < countOf image → codeAt image i ≡ codeAt image j → ⊥
 
 -- what is not refused
 pub accepted-known : (image : List ℕ) → imageRefusal image ≡ 0 → Known image
-unfolding imageRefusal imageCauses firstOf malformed entryMalformed misplaced miscoded codeRefused doubled repeated
+unfolding imageRefusal imageCauses firstCause imageMalformed entryMalformed bodyMisplaced someCodeRefused codeRefused someCodeRepeated codeRepeated
 accepted-known image e =
     let n = countOf image in
-    let none = clear (malformed image) (misplaced image) (miscoded image) (doubled image) e in
-    let one = or-false (ltb (length image) (2 + 4 * n) || ltb 64 n || not (eqb (editionOf image) 1)) (someBelow n (λ i. entryMalformed image i)) (none .0) in
-    let two = or-false (ltb (length image) (2 + 4 * n) || ltb 64 n) (not (eqb (editionOf image) 1)) (one .0) in
+    let none = clear (imageMalformed image) (bodyMisplaced image) (someCodeRefused image) (someCodeRepeated image) e in
+    let one = or-false (ltb (length image) (2 + 4 * n) || ltb 64 n || not (editionKnown (editionOf image))) (someBelow n (λ i. entryMalformed image i)) (none .0) in
+    let two = or-false (ltb (length image) (2 + 4 * n) || ltb 64 n) (not (editionKnown (editionOf image))) (one .0) in
     let three = or-false (ltb (length image) (2 + 4 * n)) (ltb 64 n) (two .0) in
-    let entry : ((i : ℕ) → i < n → (not (eqb (secondAt image i) 0) ≡ false) × (isUnknown (kindAt image i) ≡ false)) =
-    λ i h. or-false (not (eqb (secondAt image i) 0)) (isUnknown (kindAt image i)) (some-none (λ i. entryMalformed image i) n i (one .1) h) in
+    let battery : (ℕ → Bool) = λ i. batteryMalformed (editionOf image) (secondAt image i) (kindAt image i) in
+    let entry : ((i : ℕ) → i < n → (battery i ≡ false) × (isUnknown (kindAt image i) ≡ false)) =
+    λ i h. or-false (battery i) (isUnknown (kindAt image i)) (some-none (λ i. entryMalformed image i) n i (one .1) h) in
     let place = or-false (someBelow n (λ i. not (eqb (offsetAt image i) (packedAt image i)))) (not (eqb (length image) (packedAt image n))) (none .1) in
-    let code : ((i : ℕ) → i < n → (not (registered (codeAt image i)) ≡ false) × (not (eqb (getD (codeAt image i) 0 0) (familyAt image i)) ≡ false)) =
-    λ i h. or-false (not (registered (codeAt image i))) (not (eqb (getD (codeAt image i) 0 0) (familyAt image i))) (some-none (λ i. codeRefused image i) n i (none .2) h) in
+    let code : ((i : ℕ) → i < n → (not (registrationCheck (codeAt image i)) ≡ false) × (not (eqb (getD (codeAt image i) 0 0) (familyAt image i)) ≡ false)) =
+    λ i h. or-false (not (registrationCheck (codeAt image i))) (not (eqb (getD (codeAt image i) 0 0) (familyAt image i))) (some-none (λ i. codeRefused image i) n i (none .2) h) in
     record {
       entries = ltb-false (length image) (2 + 4 * n) (three .0);
       few = ltb-false 64 n (three .1);
-      edition = eqb-true _ _ (not-false _ (two .1));
-      second = λ i h. eqb-true _ _ (not-false _ (entry i h .0));
+      edition = not-false _ (two .1);
+      battery = λ i h. entry i h .0;
       kind = λ i h. entry i h .1;
       placed = λ i h. eqb-true _ _ (not-false _ (some-none (λ i. not (eqb (offsetAt image i) (packedAt image i))) n i (place .0) h));
       whole = eqb-true _ _ (not-false _ (place .1));
       code = λ i h. not-false _ (code i h .0);
       family = λ i h. eqb-true _ _ (not-false _ (code i h .1));
-      distinct = λ i j h k same. true≢false (sym (same-bytes 8 (codeAt image i) (codeAt image j) same) ∙ some-none (λ i. equalBytes 8 (codeAt image i) (codeAt image j)) j i (some-none (λ j. repeated image j) n j (none .3) k) h);
+      distinct = λ i j h k same. true≢false (sym (same-bytes 8 (codeAt image i) (codeAt image j) same) ∙ some-none (λ i. equalBytes 8 (codeAt image i) (codeAt image j)) j i (some-none (λ j. codeRepeated image j) n j (none .3) k) h);
     }
 
-well-formed : (image : List ℕ) → Known image → malformed image ≡ false
-unfolding malformed entryMalformed
+well-formed : (image : List ℕ) → Known image → imageMalformed image ≡ false
+unfolding imageMalformed entryMalformed
 well-formed image k =
     let n = countOf image in
     let long : ltb (length image) (2 + 4 * n) ≡ false = le-ltb (length image) (2 + 4 * n) (k .entries) in
     let few : ltb 64 n ≡ false = le-ltb 64 n (k .few) in
-    let one : eqb (editionOf image) 1 ≡ true = eq-eqb _ _ (k .edition) in
     let entries : someBelow n (λ i. entryMalformed image i) ≡ false =
-    none-some (λ i. entryMalformed image i) n (λ i h. rw (eq-eqb (secondAt image i) 0 (k .second i h)) (k .kind i h)) in
-    simp (long, few, one) entries
+    none-some (λ i. entryMalformed image i) n (λ i h. rw (k .battery i h) (k .kind i h)) in
+    simp (long, few, k .edition) entries
 
-well-placed : (image : List ℕ) → Known image → misplaced image ≡ false
-unfolding misplaced
+well-placed : (image : List ℕ) → Known image → bodyMisplaced image ≡ false
+unfolding bodyMisplaced
 well-placed image k =
     let n = countOf image in
     let each : someBelow n (λ i. not (eqb (offsetAt image i) (packedAt image i))) ≡ false =
     none-some (λ i. not (eqb (offsetAt image i) (packedAt image i))) n (λ i h. ap not (eq-eqb _ _ (k .placed i h))) in
     rw each (ap not (eq-eqb (length image) (packedAt image n) (k .whole)))
 
-registered-length : (image : List ℕ) (i : ℕ) → registered (codeAt image i) ≡ true → length (codeAt image i) ≡ 8
-unfolding registered
+registered-length : (image : List ℕ) (i : ℕ) → registrationCheck (codeAt image i) ≡ true → length (codeAt image i) ≡ 8
+unfolding registrationCheck
 registered-length image i e = eqb-true _ _ (and-true (eqb (length (codeAt image i)) 8) (eqb (crcOf (codeAt image i)) 0) e)
 
-well-coded : (image : List ℕ) → Known image → miscoded image ≡ false
-unfolding miscoded codeRefused
+well-coded : (image : List ℕ) → Known image → someCodeRefused image ≡ false
+unfolding someCodeRefused codeRefused
 well-coded image k =
     none-some (λ i. codeRefused image i) (countOf image)
     (λ i h. rw (k .code i h) (ap not (eq-eqb (getD (codeAt image i) 0 0) (familyAt image i) (k .family i h))))
 
-all-distinct : (image : List ℕ) → Known image → doubled image ≡ false
-unfolding doubled repeated
+all-distinct : (image : List ℕ) → Known image → someCodeRepeated image ≡ false
+unfolding someCodeRepeated codeRepeated
 all-distinct image k =
-    none-some (λ j. repeated image j) (countOf image)
+    none-some (λ j. codeRepeated image j) (countOf image)
     (λ j h. none-some (λ i. equalBytes 8 (codeAt image i) (codeAt image j)) j
     (λ i l. is-false (equalBytes 8 (codeAt image i) (codeAt image j)) (λ e. k .distinct i j l h (equal-bytes 8 (codeAt image i) (codeAt image j) (registered-length image i (k .code i (omega arith))) (registered-length image j (k .code j h)) e))))
 
 -- and back: of what is so known nothing is refused
 pub known-accepted : (image : List ℕ) → Known image → imageRefusal image ≡ 0
-unfolding imageRefusal imageCauses firstOf
+unfolding imageRefusal imageCauses firstCause
 known-accepted image k = rw (well-formed image k, well-placed image k, well-coded image k, all-distinct image k)
 
 -- ---- bodies
@@ -171,7 +172,7 @@ packed-apart image i (suc j) h =
 -- a body of a known kind has room for its code
 size-room : (kind : Kind) → isUnknown kind ≡ false → codeLength ≤ bodySize kind
 unfolding bodySize isUnknown
-size-room (Sram size) e = omega arith
+size-room (Sram size flat) e = omega arith
 size-room Eprom e = omega arith
 size-room Unknown e = absurd (true≢false e)
 

@@ -11,10 +11,10 @@ use lib.ListN.{length, getD, take, drop, length-take, length-drop}
 use lib.Seq.{getD-take, getD-drop}
 use lib.Dec.{eqb}
 use borrow.Author.Tests.{ne-eqb}
-use Rattle.bits.specs.Crc.{registered}
+use Rattle.bits.specs.Crc.{registrationCheck}
 use Rattle.kind.specs.declared.Kind.the-variants.{Sram, Eprom, Unknown}
 use Rattle.kind.specs.Kind.{kindOf, bodySize, codeLength}
-use Rattle.image.specs.Image.{countOf, familyAt, packedAt}
+use Rattle.image.specs.Image.{countOf, familyAt, flatAt, kindAt, packedAt}
 use Rattle.image.specs.Refusal.{someBelow}
 
 -- ---- a test at some number below n
@@ -41,31 +41,31 @@ some-more p i h e = rw (add-one, h) e
 -- ---- the packed layout
 
 -- no body is longer than a DS1993's
-kind-bound : (a b c : Bool) → bodySize (cond a (Sram 128) (cond b (Sram 512) (cond c Eprom Unknown))) ≤ 555
+kind-bound : (a b c flat : Bool) → bodySize (cond a (Sram 128 flat) (cond b (Sram 512 flat) (cond c Eprom Unknown))) ≤ 555
 unfolding bodySize
-kind-bound true b c = omega arith
-kind-bound false true c = omega arith
-kind-bound false false true = omega arith
-kind-bound false false false = omega arith
+kind-bound true b c flat = omega arith
+kind-bound false true c flat = omega arith
+kind-bound false false true flat = omega arith
+kind-bound false false false flat = omega arith
 
-pub size-bound : (family : ℕ) → bodySize (kindOf family) ≤ 555
+pub size-bound : (family : ℕ) (flat : Bool) → bodySize (kindOf family flat) ≤ 555
 unfolding kindOf
-size-bound family = kind-bound (eqb family 0x08) (eqb family 0x06) (eqb family 0x09)
+size-bound family flat = kind-bound (eqb family 0x08) (eqb family 0x06) (eqb family 0x09) flat
 
 pub packed-bound : (image : List ℕ) (i : ℕ) → packedAt image i ≤ 2 + 4 * countOf image + 555 * i
 unfolding packedAt
 packed-bound image zero = omega arith
-packed-bound image (suc i) = omega (arith, packed-bound image i, size-bound (familyAt image i))
+packed-bound image (suc i) = omega (arith, packed-bound image i, size-bound (familyAt image i) (flatAt image i))
 
-pub packed-next : (image : List ℕ) (i : ℕ) → packedAt image (i + 1) ≡ packedAt image i + bodySize (kindOf (familyAt image i))
+pub packed-next : (image : List ℕ) (i : ℕ) → packedAt image (i + 1) ≡ packedAt image i + bodySize (kindAt image i)
 unfolding packedAt
 packed-next image i = rw add-one
 
 -- ---- codes
 
 -- where the image ends too early there is no code
-pub short-code : (image : List ℕ) (start : ℕ) → length image < start + codeLength → registered (take codeLength (drop start image)) ≡ false
-unfolding registered
+pub short-code : (image : List ℕ) (start : ℕ) → length image < start + codeLength → registrationCheck (take codeLength (drop start image)) ≡ false
+unfolding registrationCheck
 short-code image start h =
     let len : length (take codeLength (drop start image)) < 8 = simp (length-take, length-drop) (omega arith) in
     rw (ne-eqb (length (take codeLength (drop start image))) 8 (λ (e : length (take codeLength (drop start image)) ≡ 8). omega arith))

@@ -1,21 +1,25 @@
-// The image: a table of contents, then the bodies of the devices, packed. Why an image is refused.
+// This crate reads an image, which is a table of contents and then the bodies of the devices, packed, and tells why an
+// image is refused.
 use kind::Kind;
 ghost use mathlib.Core.Path.{_≡_};
 ghost use lib.ListN.{length};
 ghost use Rattle.kind.specs.Kind.{bodySize};
-ghost use Rattle.image.specs.Image.{countOf, editionOf, familyAt, secondAt, offsetAt, kindAt, codeAt, entryOf};
-ghost use Rattle.image.specs.Refusal.{someBelow, equalBytes, entryMalformed, malformed, misplaced, codeRefused, miscoded, repeated, doubled, imageRefusal};
+ghost use Rattle.image.specs.Image.{countOf, editionOf, familyAt, secondAt, offsetAt, flatAt, kindAt, codeAt};
+ghost use Rattle.image.specs.Image.{entryOf};
+ghost use Rattle.image.specs.Refusal.{someBelow, equalBytes, editionKnown, batteryMalformed, entryMalformed};
+ghost use Rattle.image.specs.Refusal.{imageMalformed, bodyMisplaced};
+ghost use Rattle.image.specs.Refusal.{codeRefused, someCodeRefused, codeRepeated, someCodeRepeated, imageRefusal};
 
-// What an entry says of its device: the kind, and where the body starts in the image.
+// An entry names its device's kind, with the state of its battery, and where the body starts in the image.
 pub struct Entry {
     pub kind: Kind,
     pub start: usize,
 }
 
-// The number of what is not refused.
+// The number 0 means that nothing is refused.
 pub const ACCEPTED: u32 = 0;
 
-// The number of devices.
+// Byte 0 of an image is the number of its devices.
 pub fn count(image: &[u8]) -> u8
     ensures { λ r. ⌜ r ≡ countOf (now (image .entry)) ⌝ }
 {
@@ -34,10 +38,23 @@ fn second_at(image: &[u8], i: u8) -> u8
     bits::byte_at(image, 2 + 4 * bits::wide(i) + 1)
 }
 
+fn edition(image: &[u8]) -> u8
+    ensures { λ r. ⌜ r ≡ editionOf (now (image .entry)) ⌝ }
+{
+    bits::byte_at(image, 1)
+}
+
+// In edition 2 the second byte of an entry is 1 where the device's battery is flat; in edition 1 all are good.
+fn flat_at(image: &[u8], i: u8) -> bool
+    ensures { λ r. ⌜ r ≡ flatAt (now (image .entry)) i ⌝ }
+{
+    (edition(image) == 2) & (second_at(image, i) == 1)
+}
+
 fn kind_at(image: &[u8], i: u8) -> Kind
     ensures { λ r. ⌜ r ≡ kindAt (now (image .entry)) i ⌝ }
 {
-    kind::kind_of(family_at(image, i))
+    kind::kind_of(family_at(image, i), flat_at(image, i))
 }
 
 fn offset_at(image: &[u8], i: u8) -> u16
@@ -48,7 +65,7 @@ fn offset_at(image: &[u8], i: u8) -> u16
     low as u16 + 256 * (high as u16)
 }
 
-// The entry of device i, decoded. The body is found from its offset: that costs a constant.
+// The entry of device i is decoded. The body is found from its offset alone, so that the cost does not depend on i.
 pub fn entry_at(image: &[u8], i: u8) -> Entry
     ensures { λ r. ⌜ r ≡ entryOf (now (image .entry)) i ⌝ }
 {
@@ -57,13 +74,28 @@ pub fn entry_at(image: &[u8], i: u8) -> Entry
     Entry { kind, start }
 }
 
+// This tells whether the second byte of an entry is none that the edition has for a device of this kind: edition 1 has
+// only 0, edition 2 has 0 and 1, and 1 only for a device with a battery, which a DS1982 is not.
+fn is_battery_malformed(edition: u8, second: u8, kind: Kind) -> bool
+    ensures { λ r. ⌜ r ≡ batteryMalformed edition second kind ⌝ }
+{
+    if edition == 1 {
+        return second != 0;
+    }
+    if 1 < second {
+        return true;
+    }
+    (second == 1) & kind::is_eprom(kind)
+}
+
 fn is_entry_malformed(image: &[u8], i: u8) -> bool
     ensures { λ r. ⌜ r ≡ entryMalformed (now (image .entry)) i ⌝ }
 {
-    if second_at(image, i) != 0 {
+    let kind = kind_at(image, i);
+    if is_battery_malformed(edition(image), second_at(image, i), kind) {
         return true;
     }
-    kind::is_unknown(kind_at(image, i))
+    kind::is_unknown(kind)
 }
 
 fn has_malformed_entry(image: &[u8]) -> bool
@@ -80,15 +112,16 @@ fn has_malformed_entry(image: &[u8]) -> bool
     false
 }
 
-fn edition(image: &[u8]) -> u8
-    ensures { λ r. ⌜ r ≡ editionOf (now (image .entry)) ⌝ }
+// An image is of edition 1 or 2.
+fn is_edition_known(edition: u8) -> bool
+    ensures { λ r. ⌜ r ≡ editionKnown edition ⌝ }
 {
-    bits::byte_at(image, 1)
+    (edition == 1) | (edition == 2)
 }
 
-// Cause 1.
+// Cause 1 is an image too short for its entries, over 64 devices, another edition than 1 or 2, or a malformed entry.
 fn is_malformed(image: &[u8]) -> bool
-    ensures { λ r. ⌜ r ≡ malformed (now (image .entry)) ⌝ }
+    ensures { λ r. ⌜ r ≡ imageMalformed (now (image .entry)) ⌝ }
 {
     let n = count(image);
     if image.len() < 2 + 4 * bits::wide(n) {
@@ -97,15 +130,15 @@ fn is_malformed(image: &[u8]) -> bool
     if 64 < n {
         return true;
     }
-    if edition(image) != 1 {
-        return true;
+    if is_edition_known(edition(image)) {
+        return has_malformed_entry(image);
     }
-    has_malformed_entry(image)
+    true
 }
 
-// Cause 2.
+// Cause 2 is a body that is not at its packed place, or an image of another length than the packed bodies have.
 fn is_misplaced(image: &[u8]) -> bool
-    ensures { λ r. ⌜ r ≡ misplaced (now (image .entry)) ⌝ }
+    ensures { λ r. ⌜ r ≡ bodyMisplaced (now (image .entry)) ⌝ }
 {
     let n = count(image);
     let mut at = 2 + 4 * bits::wide(n);
@@ -134,9 +167,9 @@ fn is_code_refused(image: &[u8], i: u8) -> bool
     true
 }
 
-// Cause 3.
+// Cause 3 is a code with a wrong CRC, or with another family than its entry.
 fn is_miscoded(image: &[u8]) -> bool
-    ensures { λ r. ⌜ r ≡ miscoded (now (image .entry)) ⌝ }
+    ensures { λ r. ⌜ r ≡ someCodeRefused (now (image .entry)) ⌝ }
 {
     let n = count(image);
     let mut i: u8 = 0;
@@ -164,9 +197,9 @@ fn same_code(image: &[u8], i: u8, j: u8) -> bool
     true
 }
 
-// The code of device j stands at a device before it, next to it or not.
+// This tells whether the code of device j is that of a device before it, next to it or not.
 fn is_repeated(image: &[u8], j: u8) -> bool
-    ensures { λ r. ⌜ r ≡ repeated (now (image .entry)) j ⌝ }
+    ensures { λ r. ⌜ r ≡ codeRepeated (now (image .entry)) j ⌝ }
 {
     let mut i: u8 = 0;
     while i < j {
@@ -178,9 +211,9 @@ fn is_repeated(image: &[u8], j: u8) -> bool
     false
 }
 
-// Cause 4.
+// Cause 4 is two equal codes.
 fn is_doubled(image: &[u8]) -> bool
-    ensures { λ r. ⌜ r ≡ doubled (now (image .entry)) ⌝ }
+    ensures { λ r. ⌜ r ≡ someCodeRepeated (now (image .entry)) ⌝ }
 {
     let n = count(image);
     let mut j: u8 = 0;
@@ -193,7 +226,7 @@ fn is_doubled(image: &[u8]) -> bool
     false
 }
 
-// Why an image is refused, 1 to 4; 0 where it is not.
+// An image is refused with the number of the first cause that applies, 1 to 4; the number is 0 where none does.
 pub fn refusal(image: &[u8]) -> u32
     ensures { λ r. ⌜ r ≡ imageRefusal (now (image .entry)) ⌝ }
 {

@@ -9,8 +9,8 @@ use lib.ListN.{length}
 use Rattle.bits.specs.Bit.{bitOf}
 use Rattle.bits.specs.Levels.{lowBits, spelled, shiftsIn}
 use Rattle.bits.proofs.Levels.{level-above, spells-eight, spelled-bits}
-use Rattle.line.specs.Transfers.{sending, listening, sends, shifted}
-use Rattle.line.specs.Slots.{sentOver, shiftedOver}
+use Rattle.line.specs.Transfers.{sending, listening, transferSends, shifted}
+use Rattle.line.specs.Slots.{levelsSentOver, shiftedOver}
 use Rattle.line.specs.declared.Stage.{Stage}
 use Rattle.line.specs.declared.Transfer.{Transfer}
 
@@ -18,8 +18,8 @@ use Rattle.line.specs.declared.Transfer.{Transfer}
 
 -- up to eight slots send the low bits of the register, the lowest first, whatever the levels of the line are
 pub transfer-sends : (levels : List Bool) (transfer : Transfer) → length levels ≤ 8
-    → sentOver transfer levels ≡ lowBits (length levels) (transfer .register)
-unfolding sentOver lowBits sends
+    → levelsSentOver transfer levels ≡ lowBits (length levels) (transfer .register)
+unfolding levelsSentOver lowBits transferSends
 transfer-sends [] transfer h = refl
 transfer-sends (level ∷ levels) transfer h =
     ap (λ (xs : List Bool). bitOf (transfer .register) 0 ∷ xs)
@@ -28,7 +28,7 @@ transfer-sends (level ∷ levels) transfer h =
 
 -- eight slots of a sending transfer send the byte's bits, least significant first, whatever the levels are
 pub sending-law : (stage : Stage) (byte : ℕ) (levels : List Bool) → length levels ≡ 8
-    → sentOver (sending stage byte) levels ≡ lowBits 8 byte
+    → levelsSentOver (sending stage byte) levels ≡ lowBits 8 byte
 sending-law stage byte levels h = rw h at (transfer-sends levels (sending stage byte) (omega arith))
 
 -- ---- what is received

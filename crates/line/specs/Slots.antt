@@ -1,16 +1,16 @@
--- Several slots of one transfer (`Transfers.antt`, our own picture of 'The trace and its levels' of document 01).
--- The laws of a transfer (`proofs/Transfers.antt`) are stated in these words.
+-- Document 01, 'The trace and its levels', is stated here for several slots of one transfer, in the picture of our own
+-- that `Transfers.antt` gives. The laws of a transfer (`proofs/Transfers.antt`) are stated in these words.
 use mathlib.Core.Bool.{Bool}
 use mathlib.Core.List.{List, [], _∷_}
-use Rattle.line.specs.Transfers.{sends, shifted}
+use Rattle.line.specs.Transfers.{transferSends, shifted}
 use Rattle.line.specs.declared.Transfer.{Transfer}
 
--- the levels that a device sends in slots in which the line has these levels
-unfoldable pub sentOver : Transfer → List Bool → List Bool
-sentOver transfer [] = []
-sentOver transfer (level ∷ levels) = sends transfer ∷ sentOver (shifted transfer level) levels
+-- These are the levels that a device sends in slots in which the line has the given levels.
+unfoldable pub levelsSentOver : Transfer → List Bool → List Bool
+levelsSentOver transfer [] = []
+levelsSentOver transfer (level ∷ levels) = transferSends transfer ∷ levelsSentOver (shifted transfer level) levels
 
--- the transfer after them
+-- This is the transfer after slots in which the line has the given levels.
 unfoldable pub shiftedOver : Transfer → List Bool → Transfer
 shiftedOver transfer [] = transfer
 shiftedOver transfer (level ∷ levels) = shiftedOver (shifted transfer level) levels

@@ -1,11 +1,10 @@
--- Document 01, 'The trace and its levels' and 'ROM stage', in a picture of our own: a device on the line goes by
--- transfers of 1 to 8 slots, a word that the document does not use.
--- Bits go least significant first, so in each slot a device sends the lowest bit of its shift register, and the level
--- of the line comes in at the register's top. A device that listens sends ones meanwhile. `left` counts the slots
--- left of the transfer.
+-- Document 01, 'The trace and its levels' and 'ROM stage', is stated here in a picture of our own: a device on the line
+-- goes by transfers of 1 to 8 slots, a word that the document does not use. Bits go least significant first, so in each
+-- slot a device sends the lowest bit of its shift register, and the level of the line comes in at the register's top. A
+-- device that listens sends ones meanwhile. `left` counts the slots left of the transfer.
 --
--- The stages are the enums of `src/lib.rt`. Their numbers are these, each with its range, which `romRange`, `sramRange`
--- and `epromRange` of the crates above test together with the range of `left`.
+-- The stages are the enums of `src/lib.rt`. The table names their numbers, each with its range, which `romRange`,
+-- `sramRange` and `epromRange` of the crates above test together with the range of `left`.
 --
 -- ROM stage
 --   Waiting                       no number; no slot is left, and the register is full of ones
@@ -13,7 +12,7 @@
 --   Read byte                     the byte of the code that is sent, below 8; up to 8 slots
 --   Match at                      the bit of the code that is compared, below 64; 1 slot
 --   Search at                     the bit of the code that is searched, below 64; up to 3 slots
--- Memory stage, any kind
+-- Memory stage, any kind, where the battery is not flat
 --   Command                       as in the ROM stage
 -- Memory stage, DS1992 and DS1993; up to 8 slots unless another number is named
 --   WriteLow                      no number
@@ -47,49 +46,49 @@ use Rattle.line.specs.declared.Transfer.{Transfer}
 
 -- ---- transfers
 
--- no transfer: waits for a reset and answers 1
+-- A device that waits has no transfer under way: it waits for a reset and answers 1.
 abbrev pub waiting : Transfer
 waiting = record { register = 0xFF; left = 0; stage = Rom Waiting }
 
--- eight slots in which a byte is sent
+-- A byte is sent in eight slots.
 abbrev pub sending : Stage → ℕ → Transfer
 sending stage byte = record { register = byte; left = 8; stage = stage }
 
--- eight slots in which a byte is received: ones are sent
+-- A byte is received in eight slots, in which the device sends ones.
 abbrev pub listening : Stage → Transfer
 listening stage = sending stage 0xFF
 
--- one slot in which a bit is received
+-- A single bit is received in one slot, in which the device sends a one.
 abbrev pub listeningOnce : Stage → Transfer
 listeningOnce stage = record { register = 0xFF; left = 1; stage = stage }
 
--- a reset puts each device at the ROM command, 8 bits
+-- A reset puts each device at the ROM command, which has 8 bits.
 abbrev pub atRomCommand : Transfer
 atRomCommand = listening (Rom Command)
 
--- skip, or the end of the 64 bits, leads to the memory command
+-- Skip, or the end of the 64 bits, leads to the memory command.
 abbrev pub atMemoryCommand : Transfer
 atMemoryCommand = listening (Memory MemoryCommand)
 
--- the range of `left` in a transfer of so many slots: one is left at least, and no more than there are
+-- While a transfer of `slots` slots is under way, at least one slot is left of it, and no more than it has.
 abbrev pub underWay : ℕ → ℕ → Bool
 underWay slots left = ltb 0 left && leb left slots
 
 -- ---- a slot
 
--- the level that a device sends: the lowest bit of its register
-unfoldable pub sends : Transfer → Bool
-sends transfer = bitOf (transfer .register) 0
+-- A device sends the lowest bit of its register.
+unfoldable pub transferSends : Transfer → Bool
+transferSends transfer = bitOf (transfer .register) 0
 
--- whether slots are left of the transfer after this one
+-- A transfer goes on if slots are left of it after the next one.
 abbrev pub goesOn : Transfer → Bool
 goesOn transfer = ltb 1 (transfer .left)
 
--- the register after a slot at a level of the line; after eight slots it holds the byte that their levels spell
+-- A slot shifts the level of the line into the register; after eight slots it holds the byte that their levels spell.
 abbrev pub received : Transfer → Bool → ℕ
 received transfer level = shiftIn (transfer .register) level
 
--- the same transfer after a slot at a level of the line
+-- This is the same transfer after a slot at a level of the line.
 abbrev pub shifted : Transfer → Bool → Transfer
 shifted transfer level =
     record { register = received transfer level; left = transfer .left - 1; stage = transfer .stage }

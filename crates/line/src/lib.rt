@@ -1,66 +1,65 @@
-// A device on the line: one shift register and a stage.
+// A device on the line is one shift register and a stage.
 //
-// A device goes by transfers of 1 to 8 slots. In each slot it sends the lowest bit of its shift register, and the
-// level of the line comes in at the register's top, so that a device listens by sending ones. The stage says which
-// transfer is under way; only when its last slot is through do the stage and the byte received say which transfer
-// comes next.
+// A device goes by transfers of 1 to 8 slots. In each slot it sends the lowest bit of its shift register, and the level
+// of the line comes in at the register's top, so that a device listens by sending ones. The stage names the transfer
+// that is under way; only after its last slot do the stage and the byte received decide which transfer comes next.
 //
 // All numbers of a stage are bytes, so that a transfer fits into eight of them.
 ghost use mathlib.Core.Path.{_≡_};
 ghost use Prim.Native.Nat.{_-_};
 ghost use Rattle.line.specs.Transfers.{waiting, sending, listening, listeningOnce, atRomCommand};
-ghost use Rattle.line.specs.Transfers.{atMemoryCommand, underWay, sends, goesOn, shifted};
+ghost use Rattle.line.specs.Transfers.{atMemoryCommand, underWay, transferSends, goesOn, shifted};
 
-// Which device is addressed. A device that waits for a reset is in this stage.
+// The ROM stage decides which device is addressed. A device that waits for a reset is in this stage too.
 pub enum RomStage {
     Waiting,
-    // Receives the command.
+    // The device receives the command.
     Command,
-    // Sends byte `byte` of the registration code.
+    // The device sends byte `byte` of the registration code.
     Read { byte: u8 },
-    // Receives bit `at` of the code, in one slot.
+    // The device receives bit `at` of the code, in one slot.
     Match { at: u8 },
-    // Sends bit `at` of the code, then its complement, and receives the direction: three slots.
+    // The device sends bit `at` of the code, then its complement, and receives the direction, in three slots.
     Search { at: u8 },
 }
 
-// A memory function of a DS1992 or DS1993.
+// These are the memory functions of a DS1992 or DS1993.
 pub enum SramStage {
-    // Write scratchpad: receives the address, low byte first; then each data bit in a slot of its own. `offset` and
+    // Write scratchpad receives the address, low byte first, then each data bit in a slot of its own. `offset` and
     // `bit` are the place in the scratchpad of the bit that comes next; `offset` is 32 when offset 31 is complete.
     WriteLow,
     WriteHigh { low: u8 },
     WriteData { offset: u8, bit: u8 },
-    // Read scratchpad: sends TA1, TA2 and E/S, which are registers 0 to 2, then the scratchpad.
+    // Read scratchpad sends TA1, TA2 and E/S, which are registers 0 to 2, then the scratchpad.
     ReadRegister { at: u8 },
     ReadScratchpad { offset: u8 },
-    // Copy scratchpad: receives byte `at` of the pattern, `same` if those before it were those of the registers; then
-    // sends zeros.
+    // Copy scratchpad receives byte `at` of the pattern, with `same` if those before it are equal to the registers;
+    // then it sends zeros.
     CopyPattern { at: u8, same: bool },
     Copied,
-    // Read memory: receives the address, low byte first; then sends the memory, here its byte at the address `low`,
+    // Read memory receives the address, low byte first, then sends the memory, here its byte at the address `low`,
     // `high`.
     ReadLow,
     ReadHigh { low: u8 },
     ReadMemory { low: u8, high: u8 },
 }
 
-// The two fields of a DS1982.
+// A DS1982 has two fields.
 pub enum Field {
     Data,
     Status,
 }
 
-// The three reads of a DS1982: F0h, AAh, C3h.
+// A DS1982 has three reads: F0h, AAh and C3h.
 pub enum EpromRead {
     Memory,
     Status,
     Pages,
 }
 
-// A memory function of a DS1982.
+// These are the memory functions of a DS1982.
 pub enum EpromStage {
-    // A read: receives the address, low byte first; then sends a CRC, with the address of the byte that comes after
+    // A read receives the address, low byte first; then it sends a CRC, with the address of the byte that comes after
     // it, or a byte, with the CRC of the bytes since the last CRC, this one among them.
     ReadLow {
         read: EpromRead,
@@ -78,9 +77,9 @@ pub enum EpromStage {
         address: u8,
         crc: u8,
     },
-    // A write: receives the address, low byte first; then for each address receives the data byte, with the CRC
-    // generator's register before it, sends the CRC, has one slot where the program pulse is due, and sends the
-    // stored byte.
+    // A write receives the address, low byte first; then for each address it receives the data byte, with the CRC
+    // generator's register before it, sends the CRC, has one slot where the program pulse is due, and sends the stored
+    // byte.
     WriteLow {
         field: Field,
     },
@@ -109,7 +108,7 @@ pub enum EpromStage {
     },
 }
 
-// After the ROM stage: receives the command, then a memory function of the device's kind.
+// After the ROM stage a device receives the memory command, then goes through a memory function of its kind.
 pub enum MemoryStage {
     Command,
     Sram(SramStage),
@@ -121,18 +120,18 @@ pub enum Stage {
     Memory(MemoryStage),
 }
 
-// The transfer that a device takes part in.
+// A transfer is what a device sends or receives in the next slots.
 pub struct Transfer {
-    // The shift register.
+    // The shift register sends from its lowest bit and receives at its highest.
     pub register: u8,
-    // The slots that are left of the transfer, 0 where the device waits.
+    // So many slots are left of the transfer; 0 are left where the device waits.
     pub left: u8,
     pub stage: Stage,
 }
 
 // ---- which transfer comes next
 
-// No transfer: the device waits for a reset and sends ones.
+// A device that waits has no transfer under way: it waits for a reset and sends ones.
 pub fn waiting() -> Transfer
     ensures { λ r. ⌜ r ≡ waiting ⌝ }
 {
@@ -143,7 +142,7 @@ pub fn waiting() -> Transfer
     }
 }
 
-// Eight slots in which a byte is sent.
+// A byte is sent in eight slots.
 pub fn sending(stage: Stage, byte: u8) -> Transfer
     ensures { λ r. ⌜ r ≡ sending stage byte ⌝ }
 {
@@ -154,14 +153,14 @@ pub fn sending(stage: Stage, byte: u8) -> Transfer
     }
 }
 
-// Eight slots in which a byte is received.
+// A byte is received in eight slots, in which the device sends ones.
 pub fn listening(stage: Stage) -> Transfer
     ensures { λ r. ⌜ r ≡ listening stage ⌝ }
 {
     sending(stage, 255)
 }
 
-// One slot in which a bit is received.
+// A single bit is received in one slot, in which the device sends a one.
 pub fn listening_once(stage: Stage) -> Transfer
     ensures { λ r. ⌜ r ≡ listeningOnce stage ⌝ }
 {
@@ -172,21 +171,21 @@ pub fn listening_once(stage: Stage) -> Transfer
     }
 }
 
-// As a reset leaves every device.
+// A reset leaves every device at the ROM command.
 pub fn at_rom_command() -> Transfer
     ensures { λ r. ⌜ r ≡ atRomCommand ⌝ }
 {
     listening(Stage::Rom(RomStage::Command))
 }
 
-// As a device is once it is addressed.
+// A device that is addressed is at the memory command.
 pub fn at_memory_command() -> Transfer
     ensures { λ r. ⌜ r ≡ atMemoryCommand ⌝ }
 {
     listening(Stage::Memory(MemoryStage::Command))
 }
 
-// Whether `left` is a number of slots that can be left of a transfer of so many.
+// While a transfer of `slots` slots is under way, at least one slot is left of it, and no more than it has.
 pub fn under_way(slots: u8, left: u8) -> bool
     ensures { λ r. ⌜ r ≡ underWay slots left ⌝ }
 {
@@ -195,28 +194,28 @@ pub fn under_way(slots: u8, left: u8) -> bool
 
 // ---- a slot of a transfer
 
-// The level that a device sends in a slot.
+// A device sends the lowest bit of its register.
 pub fn sends(transfer: Transfer) -> bool
-    ensures { λ r. ⌜ r ≡ sends transfer ⌝ }
+    ensures { λ r. ⌜ r ≡ transferSends transfer ⌝ }
 {
     bits::bit_of(transfer.register, 0)
 }
 
-// Whether slots are left of the transfer after this one.
+// A transfer goes on if slots are left of it after the next one.
 pub fn goes_on(transfer: Transfer) -> bool
     ensures { λ r. ⌜ r ≡ goesOn transfer ⌝ }
 {
     1 < transfer.left
 }
 
-// One slot less, if there is one.
+// One slot less is left, or none where none was.
 fn one_less(left: u8) -> u8
     ensures { λ r. ⌜ r ≡ left - 1 ⌝ }
 {
     if 0 < left { left - 1 } else { 0 }
 }
 
-// The same transfer after a slot at a level of the line.
+// This is the same transfer after a slot at a level of the line.
 pub fn shifted(transfer: Transfer, level: bool) -> Transfer
     ensures { λ r. ⌜ r ≡ shifted transfer level ⌝ }
 {

@@ -1,6 +1,6 @@
 pub mod Laws
 pub mod Directions
 pub mod Clock
-pub mod Driving
+pub mod Drives
 mod Stores
-mod Feeding
+mod Stepping

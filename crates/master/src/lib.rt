@@ -1,15 +1,24 @@
-// The searching master: one level in, the next event and the next master out.
+// This crate is the searching master: it is given one level, and returns the next event and the next master.
 //
-// A pass is a reset, the command F0h in eight slots, and for each of the 64 bits of a code two read slots and one direction. A stage says
-// which event was sent last, and `at` which bit of the command or of the code it belongs to. The level that a step is given is the level
-// of that event.
-ghost use mathlib.Core.Path.{_≡_};
-ghost use Prim.Native.Nat.{_*_, _<_};
-ghost use lib.Seq.{sets};
-ghost use Rattle.master.specs.Master.{codeBytes, mostPasses, fresh, withStage, slot, said, answerOf, says, inRange, afterReset, afterCommand, atDiscrepancy, sendDirection, afterReads, completed, afterPass, passEnd, afterDirection, afterLevel, nextOf, stepOf};
-ghost use Rattle.master.specs.Drive.{started, eventsFrom, codeCompleted, codesFrom, feedTraceRoom, feedCodeRoom, refused, fed, driveResult, outcomeNumber, driveNumber, traceAfter, codesAfter};
+// A pass is a reset, the command F0h in eight slots, and for each of the 64 bits of a code two read slots and one
+// direction. A stage names the event that was sent last, and its `at` is the bit of the command or of the code that the
+// event belongs to. The level that a step is given is the level of that event.
+mod driving;
 
-// Why a master ended.
+pub use driving::Driven;
+pub use driving::Outcome;
+pub use driving::drive;
+pub use driving::keep_code;
+ghost use mathlib.Core.Path.{_≡_};
+ghost use Prim.Native.Nat.{_<_};
+ghost use Rattle.master.specs.Master.{mostPasses, freshMaster, masterAtStage, slotEvent, answerValue};
+ghost use Rattle.master.specs.Master.{answerOf, masterAnswer, masterInRange, masterAfterReset};
+ghost use Rattle.master.specs.Master.{masterAfterCommand};
+ghost use Rattle.master.specs.Master.{atDiscrepancy, sendDirection, masterAfterReads, passCompleted};
+ghost use Rattle.master.specs.Master.{stageAfterPass, passEnd, masterAfterDirection, masterAfterLevel};
+ghost use Rattle.master.specs.Master.{nextMaster, stepOf};
+
+// A master ends for one of these reasons.
 pub enum End {
     // No discrepancy is open, or no device was present at the first reset.
     Done,
@@ -21,72 +30,71 @@ pub enum End {
     Unexplored,
 }
 
-// What a step answers.
+// A step answers with an event to send, or with the end.
 pub enum Answer {
-    // The next event: 0 write-zero slot, 1 write-one slot (also the read slot), 2 reset.
+    // The next event is 0 for a write-zero slot, 1 for a write-one slot (also the read slot), or 2 for a reset.
     Event(u8),
     End(End),
 }
 
-// The event that was sent last.
+// A stage names the event that was sent last.
 pub enum Stage {
-    // None so far.
+    // No event has been sent so far.
     Fresh,
     Reset,
     Command { at: u8 },
     FirstRead { at: u8 },
-    // The first read slot's level was `first`.
+    // The level of the first read slot was `first`.
     SecondRead { at: u8, first: bool },
-    // The direction was `bit`.
+    // The direction that was sent is `bit`.
     Direction { at: u8, bit: bool },
-    // None, and none will be.
+    // The master has ended and sends no more events.
     Ended(End),
 }
 
-// The last open discrepancy of a pass: the highest bit where both read slots read 0 and 0 was sent.
+// The last open discrepancy of a pass is the highest bit where both read slots read 0 and 0 was sent.
 pub enum Discrepancy {
     None,
     At(u8),
 }
 
-// The state of a search. A step that completes a code hands it up: `passes` is one more than before, and `previous` is that code. The
-// fields are private, so that no other crate can build a master: there are the fresh one and those that a step hands back.
+// A master is the state of a search. A step that completes a code hands it up: `passes` is one more than before, and
+// `previous` is that code. The fields are private, so that no other crate can build a master: there are only the fresh
+// one and those that a step hands back.
 pub struct Master {
     stage: Stage,
-    // The codes completed.
+    // So many codes are completed.
     passes: u8,
-    // This pass: its directions so far, and its last open discrepancy.
+    // This pass has these directions so far, and this last open discrepancy.
     code: [u8; 8],
     opened: Discrepancy,
-    // The same of the pass before.
+    // The pass before had this code and this last open discrepancy.
     previous: [u8; 8],
     last: Discrepancy,
 }
 
-// The events that a master sends besides the slots of its bits.
+// A master sends these events besides the slots that send a bit.
 pub const RESET: u8 = 2;
 
 const READ_SLOT: u8 = 1;
 
-// The search command, and its bits.
+// The search command goes out in eight slots, least significant bit first.
 const SEARCH_ROM: u8 = 0xF0;
 
 const COMMAND_BITS: u8 = 8;
 
-// The bits and bytes of a code.
+// A registration code has 64 bits, which are 8 bytes.
 const CODE_BITS: u8 = 64;
 
 pub const CODE_BYTES: usize = 8;
 
-// The passes that a search may take.
+// A search takes at most so many passes, as there are at most 64 devices.
 const MOST_PASSES: u8 = 64;
 
-// The events of a pass, and of a whole search.
+// A pass is a reset and the 200 slots after it.
 pub const PASS_EVENTS: usize = 201;
 
-const MOST_EVENTS: usize = 64 * PASS_EVENTS;
-
-// A step's answer, and the master for the next step. Only a step makes one.
+// A step returns its answer, and the master for the next step. The fields are private, so that only a step makes one.
 pub struct Step {
     answer: Answer,
     next: Master,
@@ -106,14 +114,14 @@ impl Step {
     }
 }
 
-// The slot that sends a bit.
+// The slot that sends a bit is the event of the same value.
 fn slot(bit: bool) -> u8
-    ensures { λ r. ⌜ r ≡ slot bit ⌝ }
+    ensures { λ r. ⌜ r ≡ slotEvent bit ⌝ }
 {
     if bit { 1 } else { 0 }
 }
 
-// What a master answers that has come to a stage.
+// A master that has come to a stage answers with that stage's event, or with its end.
 fn answer_of(stage: Stage) -> Answer
     ensures { λ r. ⌜ r ≡ answerOf stage ⌝ }
 {
@@ -128,7 +136,8 @@ fn answer_of(stage: Stage) -> Answer
     }
 }
 
-// The direction at a discrepancy.
+// Where both read slots read 0, the direction is the previous code's bit before the last open discrepancy, 1 at it, and
+// 0 after it or where none is open.
 fn at_discrepancy(last: Discrepancy, previous: [u8; 8], at: u8) -> bool
     ensures { λ r. ⌜ r ≡ atDiscrepancy last previous at ⌝ }
 {
@@ -143,9 +152,9 @@ fn at_discrepancy(last: Discrepancy, previous: [u8; 8], at: u8) -> bool
     }
 }
 
-// Whether the search goes on after so many passes.
+// The search goes on while a discrepancy is open, up to 64 passes.
 fn after_pass(opened: Discrepancy, passes: u8) -> Stage
-    ensures { λ r. ⌜ r ≡ afterPass opened passes ⌝ }
+    ensures { λ r. ⌜ r ≡ stageAfterPass opened passes ⌝ }
 {
     match opened {
         Discrepancy::None => Stage::Ended(End::Done),
@@ -160,16 +169,16 @@ fn after_pass(opened: Discrepancy, passes: u8) -> Stage
 }
 
 impl Master {
-    // How many codes it has completed.
+    // A pass completes one code, so that this is also the number of completed codes.
     pub fn passes(self) -> u8
         ensures { λ r. ⌜ r ≡ self .passes ⌝ }
     {
         self.passes
     }
 
-    // A master that has sent nothing.
+    // A fresh master has sent nothing.
     pub fn fresh() -> Master
-        ensures { λ r. ⌜ r ≡ fresh ⌝ }
+        ensures { λ r. ⌜ r ≡ freshMaster ⌝ }
     {
         let code = [0u8; 8];
         let previous = [0u8; 8];
@@ -183,9 +192,9 @@ impl Master {
         }
     }
 
-    // Whether a fresh master can come to numbers like these.
+    // A master is in range if a fresh one can come to its numbers.
     fn in_range(self) -> bool
-        ensures { λ r. ⌜ r ≡ inRange self ⌝ }
+        ensures { λ r. ⌜ r ≡ masterInRange self ⌝ }
     {
         let stage = self.stage;
         let passes = self.passes;
@@ -200,9 +209,9 @@ impl Master {
         }
     }
 
-    // The same master in another stage.
+    // This is the same master in another stage.
     fn with_stage(self, stage: Stage) -> Master
-        ensures { λ r. ⌜ r ≡ withStage self stage ⌝ }
+        ensures { λ r. ⌜ r ≡ masterAtStage self stage ⌝ }
     {
         let code = self.code;
         let opened = self.opened;
@@ -218,9 +227,10 @@ impl Master {
         }
     }
 
-    // The level after a reset: 0 is presence.
+    // Level 0 after a reset is presence, which begins the command. No presence ends the search, with a number unless it
+    // is the first reset.
     fn after_reset(self, level: bool) -> Master
-        ensures { λ r. ⌜ r ≡ afterReset self level ⌝ }
+        ensures { λ r. ⌜ r ≡ masterAfterReset self level ⌝ }
     {
         let passes = self.passes;
         if level {
@@ -232,9 +242,9 @@ impl Master {
         self.with_stage(Stage::Command { at: 0 })
     }
 
-    // The next bit of the command, or the first bit of the code.
+    // After a bit of the command comes the next one, or the first read slot of bit 0.
     fn after_command(self, at: u8) -> Master
-        ensures { λ r. ⌜ r ≡ afterCommand self at ⌝ }
+        ensures { λ r. ⌜ r ≡ masterAfterCommand self at ⌝ }
     {
         if at < COMMAND_BITS - 1 {
             return self.with_stage(Stage::Command { at: at + 1 });
@@ -242,7 +252,7 @@ impl Master {
         self.with_stage(Stage::FirstRead { at: 0 })
     }
 
-    // Sends a direction.
+    // A direction is sent, and becomes the bit of this pass's code.
     fn send_direction(self, at: u8, bit: bool, opened: Discrepancy) -> Master
         ensures { λ r. ⌜ r ≡ sendDirection self at bit opened ⌝ }
     {
@@ -260,9 +270,9 @@ impl Master {
         }
     }
 
-    // The levels of both read slots.
+    // The levels of both read slots decide the direction; at 1,1 no device is left on the bus that answers.
     fn after_reads(self, at: u8, first: bool, second: bool) -> Master
-        ensures { λ r. ⌜ r ≡ afterReads self at first second ⌝ }
+        ensures { λ r. ⌜ r ≡ masterAfterReads self at first second ⌝ }
     {
         let opened = self.opened;
         if first {
@@ -282,10 +292,10 @@ impl Master {
         self.send_direction(at, false, Discrepancy::At(at))
     }
 
-    // The pass's code is completed; the next pass goes by it and by its last open discrepancy.
+    // The pass's code is completed, and with its last open discrepancy it guides the next pass.
     fn completed(self, stage: Stage) -> Master
         requires { ⌜ self .passes < mostPasses ⌝ }
-        ensures { λ r. ⌜ r ≡ completed self stage ⌝ }
+        ensures { λ r. ⌜ r ≡ passCompleted self stage ⌝ }
     {
         let passes = self.passes;
         let previous = self.code;
@@ -301,7 +311,7 @@ impl Master {
         }
     }
 
-    // The end of a pass.
+    // A pass ends with its code completed, or with the end of the search where the code fails the CRC.
     fn pass_end(self) -> Master
         requires { ⌜ self .passes < mostPasses ⌝ }
         ensures { λ r. ⌜ r ≡ passEnd self ⌝ }
@@ -316,10 +326,10 @@ impl Master {
         self.completed(stage)
     }
 
-    // The next bit of the code, or the end of the pass.
+    // After a direction comes the next bit, or the end of the pass.
     fn after_direction(self, at: u8) -> Master
         requires { ⌜ self .passes < mostPasses ⌝ }
-        ensures { λ r. ⌜ r ≡ afterDirection self at ⌝ }
+        ensures { λ r. ⌜ r ≡ masterAfterDirection self at ⌝ }
     {
         if at < CODE_BITS - 1 {
             return self.with_stage(Stage::FirstRead { at: at + 1 });
@@ -327,9 +337,9 @@ impl Master {
         self.pass_end()
     }
 
-    // The master after a step.
+    // This is the master after a step. One that is out of range, which no fresh master comes to, counts as ended.
     fn after(self, level: bool) -> Master
-        ensures { λ r. ⌜ r ≡ afterLevel self level ⌝ }
+        ensures { λ r. ⌜ r ≡ masterAfterLevel self level ⌝ }
     {
         if !self.in_range() {
             return self.with_stage(Stage::Ended(End::Done));
@@ -346,145 +356,13 @@ impl Master {
         }
     }
 
-    // One step, given the level of the event that was sent last; nonzero counts as 1.
+    // One step is given the level of the event that was sent last; nonzero counts as 1.
     pub fn step(self, level: u8) -> Step
-        ensures { λ r. ⌜ (r ≡ stepOf self level) × (said (r .answer) ≡ says (nextOf self level)) ⌝ }
+        ensures { λ r. ⌜ (r ≡ stepOf self level) × (answerValue (r .answer) ≡ masterAnswer (nextMaster self level)) ⌝ }
     {
         let next = self.after(level != 0);
         let stage = next.stage;
         let answer = answer_of(stage);
         Step { answer, next }
     }
-}
-
-// How a drive over recorded levels ended.
-pub enum Outcome {
-    // A buffer has too little room; nothing was written.
-    Refused,
-    // The master ended.
-    Ended(End),
-    // The levels are used up, and the master would go on.
-    Unfinished,
-}
-
-// What a drive gives back beside its buffers.
-pub struct Driven {
-    pub outcome: Outcome,
-    // The events sent and the codes completed.
-    pub events: usize,
-    pub codes: usize,
-}
-
-// The events that a master can send on so many levels.
-fn trace_room(levels: usize) -> usize
-    ensures { λ r. ⌜ r ≡ feedTraceRoom levels ⌝ }
-{
-    if levels < MOST_EVENTS {
-        levels + 1
-    } else {
-        MOST_EVENTS
-    }
-}
-
-// The bytes of the codes that a master can complete on so many levels.
-fn code_room(levels: usize) -> usize
-    ensures { λ r. ⌜ r ≡ feedCodeRoom levels ⌝ }
-{
-    let passes = levels / PASS_EVENTS;
-    let most = MOST_PASSES as usize;
-    if passes < most {
-        CODE_BYTES * passes
-    } else {
-        CODE_BYTES * most
-    }
-}
-
-// Stores a code at its place among the codes.
-fn put_code(codes: &mut [u8], place: u8, code: [u8; 8])
-    ensures { λ r. ⌜ now (codes .exit) ≡ sets (now (codes .entry)) (codeBytes * place) code ⌝ }
-{
-    let at = CODE_BYTES * (place as usize);
-    let mut i = 0;
-    while i < CODE_BYTES {
-        bits::put_byte(codes, at + i, code[i]);
-        i += 1;
-    }
-}
-
-// Stores the code that a step completed, if it completed one; `before` counts those completed before the step.
-pub fn keep_code(codes: &mut [u8], before: u8, next: Master)
-    ensures { λ r. ⌜ now (codes .exit) ≡ sets (now (codes .entry)) (codeBytes * before) (codeCompleted before next) ⌝ }
-{
-    let passes = next.passes;
-    if before < passes {
-        let code = next.previous;
-        put_code(codes, before, code);
-    }
-}
-
-// Nothing was done.
-fn refused() -> Driven
-    ensures { λ r. ⌜ r ≡ refused ⌝ }
-{
-    Driven {
-        outcome: Outcome::Refused,
-        events: 0,
-        codes: 0,
-    }
-}
-
-// A fresh master stepped with recorded levels, into buffers that have the room for what it sends and completes.
-fn feed(levels: &[u8], trace: &mut [u8], codes: &mut [u8]) -> Driven
-    ensures { λ r. ⌜ (r ≡ fed (now (levels .entry)))
-        × (now (trace .exit) ≡ sets (now (trace .entry)) 0 (eventsFrom started (now (levels .entry))))
-        × (now (codes .exit) ≡ sets (now (codes .entry)) 0 (codesFrom started (now (levels .entry)))) ⌝ }
-{
-    let mut step = Master::fresh().step(0);
-    let mut i = 0;
-    loop {
-        let answer = step.answer;
-        let master = step.next;
-        let completed = master.passes;
-        match answer {
-            Answer::End(end) => {
-                return Driven {
-                    outcome: Outcome::Ended(end),
-                    events: i,
-                    codes: completed as usize,
-                };
-            }
-            Answer::Event(event) => {
-                bits::put_byte(trace, i, event);
-                if levels.len() <= i {
-                    return Driven {
-                        outcome: Outcome::Unfinished,
-                        events: i + 1,
-                        codes: completed as usize,
-                    };
-                }
-                step = master.step(levels[i]);
-                let next = step.next;
-                keep_code(codes, completed, next);
-                i += 1;
-            }
-        }
-    }
-}
-
-// A fresh master stepped with recorded levels: each is the level of the event just sent, and those after the end are not read. The events
-// go into `trace`, the codes completed into `codes`. Where one of these is too short for what so many levels can bring, the drive is
-// refused and nothing is written.
-pub fn drive(levels: &[u8], trace: &mut [u8], codes: &mut [u8]) -> Driven
-    ensures { λ r. ⌜ (r ≡ driveResult (now (levels .entry)) (now (trace .entry)) (now (codes .entry)))
-        × (outcomeNumber (r .outcome) ≡ driveNumber (now (levels .entry)) (now (trace .entry)) (now (codes .entry)))
-        × (now (trace .exit) ≡ traceAfter (now (levels .entry)) (now (trace .entry)) (now (codes .entry)))
-        × (now (codes .exit) ≡ codesAfter (now (levels .entry)) (now (trace .entry)) (now (codes .entry))) ⌝ }
-{
-    if trace.len() < trace_room(levels.len()) {
-        return refused();
-    }
-    if codes.len() < code_room(levels.len()) {
-        return refused();
-    }
-    feed(levels, trace, codes)
 }

@@ -8,9 +8,9 @@ use native.Mathlib.Omega.{arith}
 use lib.ListN.{length, getD, drop, length-drop}
 use lib.Seq.{drop-cons}
 use lib.Dec.{lit<}
-use Rattle.image.specs.Refusal.{cause, firstOf, imageCauses, imageRefusal}
+use Rattle.image.specs.Refusal.{cause, firstCause, imageCauses, imageRefusal}
 use Rattle.bus.proofs.Laws.{first-none}
-use Rattle.discovery.specs.Words.{isReset, isSlot, slotNext, resetsIn, slotsIn, passesIn}
+use Rattle.search_laws.specs.Words.{isReset, isSlot, slotNext, resetsIn, slotsIn, passesIn}
 use Rattle.search.specs.Refusal.{noSearchRoom, searchCauses, searchRefusal}
 
 -- one event of those that are left
@@ -46,5 +46,5 @@ passes-end t i h = none-in (drop i t) (let d = length-drop i t in omega arith)
 
 -- of an image that is not refused
 pub room-decides : (image : List ℕ) (codes trace lines : ℕ) → imageRefusal image ≡ 0 → searchRefusal image codes trace lines ≡ cond (noSearchRoom image codes trace lines) 7 0
-unfolding searchRefusal searchCauses imageCauses imageRefusal firstOf
+unfolding searchRefusal searchCauses imageCauses imageRefusal firstCause
 room-decides image codes trace lines h = first-none (imageCauses image) (cause 7 (noSearchRoom image codes trace lines) ∷ []) (lit< tt, (lit< tt, (lit< tt, (lit< tt, tt)))) h

@@ -19,23 +19,23 @@ use Rattle.bits.specs.Bit.{levelByte}
 use Rattle.bus.specs.Bus.{Device, deviceWith, eventOf, nextState, runTrace}
 use Rattle.bus.specs.Bus as Bus
 use Rattle.bus.specs.Run.{devicesFrom, statesOf}
-use Rattle.bus.specs.Loops.{turnedFrom, levelAsItIs, levelOn, statesAfter}
+use Rattle.bus.specs.Loops.{turnStatesFrom, levelAsIs, levelOn, turnStatesOf}
 use Rattle.bus.proofs.Shown.{devices-states}
 use Rattle.bus.proofs.States.{states-length}
 use Rattle.master.specs.declared.Answer.{Answer}
 use Rattle.master.specs.declared.Master.{Master}
 use Rattle.master.specs.declared.Step.{Step}
 use Rattle.master.specs.Master as M
-use Rattle.master.specs.Master.{codeBytes, event, end, endNumber, said, says, fresh, nextOf, stepOf}
-use Rattle.master.specs.Drive.{codeCompleted, over}
+use Rattle.master.specs.Master.{codeBytes, event, end, endNumber, answerValue, masterAnswer, freshMaster, nextMaster, stepOf}
+use Rattle.master.specs.Drive.{codeCompleted, writtenOver}
 use Rattle.master.proofs.Clock.{Reached, reached-started, started-passes, reached-on, completed-size}
-use Rattle.discovery.specs.Search.{Search, searchOf}
-use Rattle.discovery.specs.Searched.{Searched, eventsFor}
-use Rattle.discovery.proofs.Driven.{driven-stops, driven-devices}
-use Rattle.discovery.proofs.Demand.{searched}
-use Rattle.discovery.proofs.Going as G
-use Rattle.discovery.proofs.Going.{Going, going-start, going-end, going-room, going-on, linesAfter, turned-in, level-in}
-use Rattle.search.specs.Exchange.{hasEvent, eventIn, Ready}
+use Rattle.search_laws.specs.Search.{Search, searchOf}
+use Rattle.search_laws.specs.Searched.{Searched, eventsFor}
+use Rattle.search_laws.proofs.Driven.{driven-stops, driven-devices}
+use Rattle.search_laws.proofs.Demand.{searched}
+use Rattle.search_laws.proofs.Going as G
+use Rattle.search_laws.proofs.Going.{Going, going-start, going-end, going-room, going-on, linesAfter, turned-in, level-in}
+use Rattle.search.specs.Loops.{hasEvent, eventIn, Ready}
 
 -- ---- the state
 
@@ -60,9 +60,9 @@ module _ (image : List ℕ) where
   abbrev pub exchangeWith : ℕ → State → Bool → State
   exchangeWith k s level =
       state (stepOf (s .step .next) (levelByte level))
-      (statesAfter image (s .lines) (countOf image) (sentIn s) level)
+      (turnStatesOf image (s .lines) (countOf image) (sentIn s) level)
       (set (s .trace) k (sentIn s))
-      (sets (s .codes) (codeBytes * s .step .next .passes) (codeCompleted (s .step .next .passes) (nextOf (s .step .next) (levelByte level))))
+      (sets (s .codes) (codeBytes * s .step .next .passes) (codeCompleted (s .step .next .passes) (nextMaster (s .step .next) (levelByte level))))
 
   unfoldable pub exchanges : ℕ → State → State
   exchanges zero s = s
@@ -84,13 +84,13 @@ module _ (image : List ℕ) where
   codes-length (suc k) s =
       let before = exchanges k s in
       let m = before .step .next in
-      length-sets (before .codes) (codeBytes * m .passes) (codeCompleted (m .passes) (nextOf m (levelByte (levelIn before)))) ∙ codes-length k s
+      length-sets (before .codes) (codeBytes * m .passes) (codeCompleted (m .passes) (nextMaster m (levelByte (levelIn before)))) ∙ codes-length k s
 
 -- ---- what the loop holds when turn k begins, beside the lines and the trace after k exchanges
 module _ (image : List ℕ) (s : State) where
   -- the master and the codes that step k - 1 left, and the level of its event
   abbrev pub masterAt : ℕ → Master
-  masterAt zero = fresh
+  masterAt zero = freshMaster
   masterAt (suc k) = exchanges image k s .step .next
 
   abbrev pub levelAt : ℕ → ℕ
@@ -106,7 +106,7 @@ module _ (image : List ℕ) (s : State) where
   held-length (suc k) = codes-length image k s
 
   -- turn k's step is the one that exchange k starts from
-  pub step-is : s .step ≡ stepOf fresh 0 → (k : ℕ) → stepOf (masterAt k) (levelAt k) ≡ exchanges image k s .step
+  pub step-is : s .step ≡ stepOf freshMaster 0 → (k : ℕ) → stepOf (masterAt k) (levelAt k) ≡ exchanges image k s .step
   unfolding exchanges
   step-is e zero = sym e
   step-is e (suc k) = refl
@@ -115,17 +115,17 @@ module _ (image : List ℕ) (s : State) where
   abbrev pub codesStepped : ℕ → List ℕ
   codesStepped k =
       let m = masterAt k in
-      sets (codesAt k) (codeBytes * m .passes) (codeCompleted (m .passes) (nextOf m (levelAt k)))
+      sets (codesAt k) (codeBytes * m .passes) (codeCompleted (m .passes) (nextMaster m (levelAt k)))
 
   pub codes-are : (k : ℕ) → codesStepped k ≡ exchanges image k s .codes
-  unfolding exchanges codeCompleted fresh M.afterLevel M.inRange M.stageInRange M.stepByStage M.withStage
+  unfolding exchanges codeCompleted freshMaster M.masterAfterLevel M.masterInRange M.stageInRange M.stepByStage M.masterAtStage
   codes-are zero = refl
   codes-are (suc k) = refl
 
 -- ---- bytes at the front of a buffer, and bytes after them
-over-more : (xs vs buffer : List ℕ) → length (xs ++ vs) ≤ length buffer → sets (over xs buffer) (length xs) vs ≡ over (xs ++ vs) buffer
+over-more : (xs vs buffer : List ℕ) → length (xs ++ vs) ≤ length buffer → sets (writtenOver xs buffer) (length xs) vs ≡ writtenOver (xs ++ vs) buffer
 over-more xs vs buffer h =
-    let l = over xs buffer in
+    let l = writtenOver xs buffer in
     let all = length-append xs vs in
     let size : length l ≡ length buffer = length-append xs (drop (length xs) buffer) ∙ (let d = length-drop (length xs) buffer in omega arith) in
     let room : length xs + length vs ≤ length l = omega arith in
@@ -135,15 +135,15 @@ over-more xs vs buffer h =
     ∙ ap (λ (m : ℕ). (xs ++ vs) ++ drop m buffer) (sym all)
 
 -- ---- what an answer says
-event-said : (a : Answer) → hasEvent a ≡ true → said a ≡ event (eventIn a)
-unfolding hasEvent eventIn said
-event-said (Answer.Event e) h = refl
-event-said (Answer.End x) h = absurd (true≢false (sym h))
+event-answer : (a : Answer) → hasEvent a ≡ true → answerValue a ≡ event (eventIn a)
+unfolding hasEvent eventIn answerValue
+event-answer (Answer.Event e) h = refl
+event-answer (Answer.End x) h = absurd (true≢false (sym h))
 
-end-said : (a : Answer) → hasEvent a ≡ false → (x : ℕ) × (said a ≡ end x)
-unfolding hasEvent said
-end-said (Answer.Event e) h = absurd (true≢false h)
-end-said (Answer.End x) h = (endNumber x, refl)
+end-answer : (a : Answer) → hasEvent a ≡ false → (x : ℕ) × (answerValue a ≡ end x)
+unfolding hasEvent answerValue
+end-answer (Answer.Event e) h = absurd (true≢false h)
+end-answer (Answer.End x) h = (endNumber x, refl)
 
 -- ---- the loop
 module _ (image codes₀ trace₀ : List ℕ) (lines₀ : List LineState) (ready : Ready image codes₀ trace₀ lines₀) where
@@ -160,7 +160,7 @@ module _ (image codes₀ trace₀ : List ℕ) (lines₀ : List LineState) (ready
   demand = searched image (ready .bytes) (ready .accepted)
 
   abbrev pub start : State
-  start = state (stepOf fresh 0) lines₀ trace₀ codes₀
+  start = state (stepOf freshMaster 0) lines₀ trace₀ codes₀
 
   record Doing (k : ℕ) (s : State) : Type 0 where
     pub at : List LineState
@@ -171,8 +171,8 @@ module _ (image codes₀ trace₀ : List ℕ) (lines₀ : List LineState) (ready
     pub reached : Reached (s .step .next) k
     pub count : length sent ≡ k
     pub sized : length found ≡ codeBytes * s .step .next .passes
-    pub traced : s .trace ≡ over sent trace₀
-    pub stored : s .codes ≡ over found codes₀
+    pub traced : s .trace ≡ writtenOver sent trace₀
+    pub stored : s .codes ≡ writtenOver found codes₀
     pub lined : s .lines ≡ at ++ drop n lines₀
 
   doing-start : Doing 0 start
@@ -191,21 +191,21 @@ module _ (image codes₀ trace₀ : List ℕ) (lines₀ : List LineState) (ready
   }
 
   module _ {k : ℕ} {s : State} (d : Doing k s) where
-    said-is : says (s .step .next) ≡ said (s .step .answer)
-    said-is = ap said (sym (d .answered))
+    said-is : masterAnswer (s .step .next) ≡ answerValue (s .step .answer)
+    said-is = ap answerValue (sym (d .answered))
 
     -- at an end all is done
     at-end : hasEvent (s .step .answer) ≡ false → (d .sent ≡ S .trace) × (d .found ≡ S .codes) × (d .at ≡ statesOf (S .devices))
     unfolding runTrace
     at-end h =
-        let x = end-said (s .step .answer) h in
+        let x = end-answer (s .step .answer) h in
         let g = going-end image demand (x .0) (d .going) (said-is ∙ x .1) in
         let t = driven-stops (x .0) (d .going .driven) (said-is ∙ x .1) .0 in
         let ds : devicesFrom image 0 (d .at) ≡ S .devices = ap (λ (l : List ℕ). runTrace l (devicesFrom image 0 (d .at)) .devices) (sym t) ∙ driven-devices (d .going .driven) in
         (g .2, g .3, sym (devices-states image (accepted-known image (ready .accepted)) 0 (d .at)) ∙ ap statesOf ds)
 
-    sends : hasEvent (s .step .answer) ≡ true → says (s .step .next) ≡ event (sentIn image s)
-    sends h = said-is ∙ event-said (s .step .answer) h
+    sends : hasEvent (s .step .answer) ≡ true → masterAnswer (s .step .next) ≡ event (sentIn image s)
+    sends h = said-is ∙ event-answer (s .step .answer) h
 
     -- before the last event it sends, and after it it does not
     must : (b : Bool) → hasEvent (s .step .answer) ≡ b → k < N → b ≡ true
@@ -223,13 +223,13 @@ module _ (image codes₀ trace₀ : List ℕ) (lines₀ : List LineState) (ready
     level-same : (e : ℕ) → levelOn (s .lines) n e ≡ G.levelIn image (d .at) e
     unfolding levelOn
     level-same e =
-        ap (levelAsItIs (eventOf e)) taken ∙ level-in image (accepted-known image (ready .accepted)) (d .at) e (d .going .ranged)
+        ap (levelAsIs (eventOf e)) taken ∙ level-in image (accepted-known image (ready .accepted)) (d .at) e (d .going .ranged)
 
-    lines-same : (e : ℕ) → statesAfter image (s .lines) n e (G.levelIn image (d .at) e) ≡ linesAfter image (d .at) e ++ drop n lines₀
-    unfolding statesAfter
+    lines-same : (e : ℕ) → turnStatesOf image (s .lines) n e (G.levelIn image (d .at) e) ≡ linesAfter image (d .at) e ++ drop n lines₀
+    unfolding turnStatesOf
     lines-same e =
         let level = G.levelIn image (d .at) e in
-        ap (λ (l : List LineState). turnedFrom image 0 l e level ++ drop n (s .lines)) taken
+        ap (λ (l : List LineState). turnStatesFrom image 0 l e level ++ drop n (s .lines)) taken
         ∙ ap (λ (l : List LineState). l ++ drop n (s .lines))
         (turned-in image (accepted-known image (ready .accepted)) 0 (d .at) e level (let c = d .going .each in omega arith) (d .going .ranged))
         ∙ ap (λ (l : List LineState). linesAfter image (d .at) e ++ l) (ap (drop n) (d .lined) ∙ drop-at (d .at) (drop n lines₀) n (d .going .each))
@@ -239,7 +239,7 @@ module _ (image codes₀ trace₀ : List ℕ) (lines₀ : List LineState) (ready
         let e = sentIn image s in
         let m = s .step .next in
         let level = G.levelIn image (d .at) e in
-        let code = codeCompleted (m .passes) (nextOf m (levelByte level)) in
+        let code = codeCompleted (m .passes) (nextMaster m (levelByte level)) in
         let g = going-on image demand e (d .going) (sends h) in
         let few = going-room image demand e (d .going) (sends h) in
         let cs = length-append (d .found) code in
@@ -282,11 +282,11 @@ module _ (image codes₀ trace₀ : List ℕ) (lines₀ : List LineState) (ready
   pub stops : hasEvent (exchanges image N start .step .answer) ≡ false
   stops = cannot (doing N (omega arith)) (hasEvent (exchanges image N start .step .answer)) refl (omega arith)
 
-  pub codes-done : exchanges image N start .codes ≡ over (S .codes) codes₀
-  codes-done = let d = doing N (omega arith) in d .stored ∙ ap (λ (l : List ℕ). over l codes₀) (at-end d stops .1)
+  pub codes-done : exchanges image N start .codes ≡ writtenOver (S .codes) codes₀
+  codes-done = let d = doing N (omega arith) in d .stored ∙ ap (λ (l : List ℕ). writtenOver l codes₀) (at-end d stops .1)
 
-  pub trace-done : exchanges image N start .trace ≡ over (S .trace) trace₀
-  trace-done = let d = doing N (omega arith) in d .traced ∙ ap (λ (l : List ℕ). over l trace₀) (at-end d stops .0)
+  pub trace-done : exchanges image N start .trace ≡ writtenOver (S .trace) trace₀
+  trace-done = let d = doing N (omega arith) in d .traced ∙ ap (λ (l : List ℕ). writtenOver l trace₀) (at-end d stops .0)
 
   pub lines-done : exchanges image N start .lines ≡ statesOf (S .devices) ++ drop n lines₀
   lines-done = let d = doing N (omega arith) in d .lined ∙ ap (λ (l : List LineState). l ++ drop n lines₀) (at-end d stops .2)

@@ -68,6 +68,14 @@ put-byte-shape = record {
   gives = nil;
 }
 
+abbrev pub answered-shape : Shape
+answered-shape = record {
+  lifetimes = 2;
+  outlives = [];
+  kinds = shrK 0 tt u8 ∷ mutK 1 tt R ∷ dataK (num w64) ∷ dataK (num w8) ∷ [];
+  gives = num w8;
+}
+
 abbrev pub level-byte-shape : Shape
 level-byte-shape = record { lifetimes = 0; outlives = []; kinds = dataK truth ∷ []; gives = num w8 }
 

@@ -9,23 +9,23 @@ use lib.Seq.{take-at, drop-at}
 use lib.Dec.{T, eqb, ltb}
 use borrow.Author.Tests.{ltb-false}
 use Rattle.image.specs.Image.{countOf}
-use Rattle.image.specs.Refusal.{cause, firstOf, imageCauses, imageRefusal}
+use Rattle.image.specs.Refusal.{cause, firstCause, imageCauses, imageRefusal}
 use Rattle.device.specs.declared.LineState.{LineState}
 use Rattle.device.specs.Device.{waitingState}
 use Rattle.master.specs.Master.{codeBytes}
-use Rattle.master.specs.Drive.{over}
+use Rattle.master.specs.Drive.{writtenOver}
 use Rattle.bus.specs.Run.{statesOf}
-use Rattle.bus.specs.Loops.{fewerOf, filled}
+use Rattle.bus.specs.Loops.{fewerOf, filledUpTo}
 use Rattle.bus.proofs.Laws.{none-first, filled-length, fewer-first}
 use Rattle.bus.proofs.Shown.{filled-is}
-use Rattle.discovery.specs.Search.{Search, searchOf}
-use Rattle.discovery.specs.Searched.{Searched, eventsFor}
-use Rattle.discovery.specs.Words.{Bytes}
-use Rattle.discovery.proofs.Demand.{searched}
+use Rattle.search_laws.specs.Search.{Search, searchOf}
+use Rattle.search_laws.specs.Searched.{Searched, eventsFor}
+use Rattle.search_laws.specs.Words.{Bytes}
+use Rattle.search_laws.proofs.Demand.{searched}
 use Rattle.search.specs.declared.Found.{Found}
 use Rattle.search.specs.Refusal.{noSearchRoom, searchCauses, searchRefusal}
-use Rattle.search.specs.Found.{foundIn, SearchOutcome, searchOutcome, SearchLeaves, leftBySearch, searchedAt, searchedOf}
-use Rattle.search.specs.Exchange.{Ready}
+use Rattle.search.specs.Found.{foundIn, SearchOutcome, searchOutcome, SearchLeaves, leftBySearch, searchOutcomeAt, searchOutcomeOf}
+use Rattle.search.specs.Loops.{Ready}
 use Rattle.search.proofs.Counts.{room-decides}
 
 -- ---- what is not refused
@@ -47,7 +47,7 @@ module _ (image codes trace : List ℕ) (lines : List LineState) where
 
   -- the line states as they start
   abbrev pub begun : List LineState
-  begun = filled (fewerOf n (length lines)) waitingState lines
+  begun = filledUpTo (fewerOf n (length lines)) waitingState lines
 
   accepted : number ≡ 0 → imageRefusal image ≡ 0
   unfolding searchRefusal searchCauses imageRefusal
@@ -63,7 +63,7 @@ module _ (image codes trace : List ℕ) (lines : List LineState) where
 
   begun-is : number ≡ 0 → begun ≡ replicate n waitingState ++ drop n lines
   begun-is e =
-      ap (λ (m : ℕ). filled m waitingState lines) (fewer-first n (length lines) (room e .2)) ∙ filled-is n waitingState lines (room e .2)
+      ap (λ (m : ℕ). filledUpTo m waitingState lines) (fewer-first n (length lines) (room e .2)) ∙ filled-is n waitingState lines (room e .2)
 
   pub begun-length : length begun ≡ length lines
   begun-length = filled-length (fewerOf n (length lines)) waitingState lines
@@ -84,24 +84,24 @@ module _ (image codes trace : List ℕ) (lines : List LineState) where
   -- ---- what is left
 
   pub shown : number ≡ 0
-      → searchOutcome (foundIn number (take (length (searchOf image .trace)) (over (searchOf image .trace) trace))) (over (searchOf image .codes) codes) (over (searchOf image .trace) trace) (statesOf (searchOf image .devices) ++ drop n begun)
-      ≡ searchedOf image codes trace lines
-  unfolding searchedOf searchedAt leftBySearch
+      → searchOutcome (foundIn number (take (length (searchOf image .trace)) (writtenOver (searchOf image .trace) trace))) (writtenOver (searchOf image .codes) codes) (writtenOver (searchOf image .trace) trace) (statesOf (searchOf image .devices) ++ drop n begun)
+      ≡ searchOutcomeOf image codes trace lines
+  unfolding searchOutcomeOf searchOutcomeAt leftBySearch
   shown e =
       let S = searchOf image in
       let rest : drop n begun ≡ drop n lines = ap (drop n) (begun-is e) ∙ drop-at (replicate n waitingState) (drop n lines) n (length-replicate n waitingState) in
-      ap (λ (m : ℕ). searchOutcome (foundIn m (take (length (S .trace)) (over (S .trace) trace))) (over (S .codes) codes) (over (S .trace) trace) (statesOf (S .devices) ++ drop n begun)) e
-      ∙ ap (λ (t : List ℕ). searchOutcome (foundIn 0 t) (over (S .codes) codes) (over (S .trace) trace) (statesOf (S .devices) ++ drop n begun)) (take-at (S .trace) (drop (length (S .trace)) trace) (length (S .trace)) refl)
-      ∙ ap (λ (l : List LineState). searchOutcome (foundIn 0 (S .trace)) (over (S .codes) codes) (over (S .trace) trace) (statesOf (S .devices) ++ l)) rest
-      ∙ ap (λ (m : ℕ). searchedAt m image codes trace lines) (sym e)
+      ap (λ (m : ℕ). searchOutcome (foundIn m (take (length (S .trace)) (writtenOver (S .trace) trace))) (writtenOver (S .codes) codes) (writtenOver (S .trace) trace) (statesOf (S .devices) ++ drop n begun)) e
+      ∙ ap (λ (t : List ℕ). searchOutcome (foundIn 0 t) (writtenOver (S .codes) codes) (writtenOver (S .trace) trace) (statesOf (S .devices) ++ drop n begun)) (take-at (S .trace) (drop (length (S .trace)) trace) (length (S .trace)) refl)
+      ∙ ap (λ (l : List LineState). searchOutcome (foundIn 0 (S .trace)) (writtenOver (S .codes) codes) (writtenOver (S .trace) trace) (statesOf (S .devices) ++ l)) rest
+      ∙ ap (λ (m : ℕ). searchOutcomeAt m image codes trace lines) (sym e)
 
-  refused-at : (m : ℕ) → T (not (eqb m 0)) → searchOutcome (foundIn m (take 0 trace)) codes trace lines ≡ searchedAt m image codes trace lines
-  unfolding searchedAt
+  refused-at : (m : ℕ) → T (not (eqb m 0)) → searchOutcome (foundIn m (take 0 trace)) codes trace lines ≡ searchOutcomeAt m image codes trace lines
+  unfolding searchOutcomeAt
   refused-at zero t = absurd t
   refused-at (suc m) t = refl
 
-  pub refused : T (not (eqb number 0)) → searchOutcome (foundIn number (take 0 trace)) codes trace lines ≡ searchedOf image codes trace lines
-  unfolding searchedOf
+  pub refused : T (not (eqb number 0)) → searchOutcome (foundIn number (take 0 trace)) codes trace lines ≡ searchOutcomeOf image codes trace lines
+  unfolding searchOutcomeOf
   refused t = refused-at number t
 
 -- what a search left, as one equation and as an equation for each thing

@@ -1,3 +1,3 @@
 pub mod Refusal
 pub mod Found
-pub mod Exchange
+pub mod Loops

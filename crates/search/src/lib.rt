@@ -1,7 +1,8 @@
-// The search: the searching master, stepped with the levels of the bus and nothing else.
+// This crate is the search: the searching master, stepped with the levels of the bus and nothing else.
 //
-// The image is only read. The loop over the exchanges sends what the master answers to the devices, and gives the level that they answer to
-// the master's next step; what is written and stored between is a function by value over the buffers.
+// The image is only read. The loop over the exchanges sends what the master answers to the devices, and gives the level
+// that they answer to the master's next step; what is written and stored between is a function by value over the
+// buffers.
 use device::LineState;
 use image::ACCEPTED;
 use master::Answer;
@@ -17,22 +18,23 @@ ghost use mathlib.Core.List.{_++_};
 ghost use lib.ListN.{length, take, drop, getD};
 ghost use lib.Seq.{sets};
 ghost use Rattle.image.specs.Image.{countOf};
-ghost use Rattle.master.specs.Master.{codeBytes, nextOf, stepOf};
-ghost use Rattle.master.specs.Drive.{codeCompleted, over};
+ghost use Rattle.master.specs.Master.{codeBytes, nextMaster, stepOf};
+ghost use Rattle.master.specs.Drive.{codeCompleted, writtenOver};
 ghost use Rattle.bits.specs.Bit.{levelByte};
+ghost use Rattle.bus.specs.Loops.{levelOn, turnStatesOf};
 ghost use Rattle.bus.specs.Run.{statesOf};
-ghost use Rattle.discovery.specs.Search.{searchOf};
-ghost use Rattle.discovery.specs.Searched.{Searched, eventsFor};
-ghost use Rattle.discovery.specs.Words.{Bytes, isReset, isSlot, resetsIn, slotsIn, passesIn};
+ghost use Rattle.search_laws.specs.Search.{searchOf};
+ghost use Rattle.search_laws.specs.Searched.{Searched, eventsFor};
+ghost use Rattle.search_laws.specs.Words.{Bytes, isReset, isSlot, resetsIn, slotsIn, passesIn};
 ghost use Rattle.search.specs.Refusal.{noSearchRoom, searchRefusal};
-ghost use Rattle.search.specs.Found.{foundIn, SearchLeaves, searchedOf};
-ghost use Rattle.search.specs.Exchange.{hasEvent, eventIn, Ready};
+ghost use Rattle.search.specs.Found.{foundIn, SearchLeaves, searchOutcomeOf};
+ghost use Rattle.search.specs.Loops.{hasEvent, eventIn, Ready};
 
-// What a search gives back beside its buffers.
+// A search returns this beside what it writes to its buffers.
 pub struct Found {
-    // 0: the search is not refused.
+    // The number is 0 where the search is not refused.
     pub number: u32,
-    // Counted in the trace that it wrote.
+    // The passes, resets and slots are counted in the trace that the search wrote.
     pub passes: u64,
     pub resets: u64,
     pub slots: u64,
@@ -40,7 +42,7 @@ pub struct Found {
 
 // ---- why a search is refused
 
-// The events of a search of n devices.
+// A search of n devices has so many events.
 fn trace_room(n: u8) -> usize
     ensures { λ r. ⌜ r ≡ eventsFor n ⌝ }
 {
@@ -50,7 +52,7 @@ fn trace_room(n: u8) -> usize
     PASS_EVENTS * bits::wide(n)
 }
 
-// Cause 7.
+// Cause 7 is too little room for the codes or the trace, or too few line states.
 fn lacks_room(image: &[u8], codes: usize, trace: usize, lines: usize) -> bool
     ensures { λ r. ⌜ r ≡ noSearchRoom (now (image .entry)) codes trace lines ⌝ }
 {
@@ -64,7 +66,7 @@ fn lacks_room(image: &[u8], codes: usize, trace: usize, lines: usize) -> bool
     lines < bits::wide(n)
 }
 
-// Why a search is refused, 1 to 4 or 7; 0 where it is not. The image is bytes, as every slice of bytes is.
+// A search is refused with the number of the first cause that applies, 1 to 4 or 7; the number is 0 where none does.
 fn refusal(image: &[u8], codes: usize, trace: usize, lines: usize) -> u32
     ensures { λ r. ⌜ (r ≡ searchRefusal (now (image .entry)) codes trace lines) × Bytes (now (image .entry)) ⌝ }
 {
@@ -80,7 +82,7 @@ fn refusal(image: &[u8], codes: usize, trace: usize, lines: usize) -> u32
 
 // ---- one exchange
 
-// Whether a step answered an event, and not the end.
+// This tells whether a step answered with an event, and not with the end.
 fn has_event(step: Step) -> bool
     ensures { λ r. ⌜ r ≡ hasEvent (step .answer) ⌝ }
 {
@@ -91,7 +93,7 @@ fn has_event(step: Step) -> bool
     }
 }
 
-// The event that a step answered; at the end there is none to send, and it is a reset.
+// At the end there is no event to send, and a reset stands in its place.
 fn event_in(step: Step) -> u8
     ensures { λ r. ⌜ r ≡ eventIn (step .answer) ⌝ }
 {
@@ -102,19 +104,31 @@ fn event_in(step: Step) -> u8
     }
 }
 
-// A level as a byte.
+// A level is 0 or 1 as a byte.
 fn level_byte(level: bool) -> u8
     ensures { λ r. ⌜ r ≡ levelByte level ⌝ }
 {
     if level { 1 } else { 0 }
 }
 
-// The master's step; the code that it completed, if it completed one, is stored. The search steps the master nowhere
-// else: the compiler inlines a function of this size only where it has one caller.
+// The first n devices answer an event with its level, as a byte, which each of them is then given. The image is only
+// read.
+fn answered(image: &[u8], lines: &mut [LineState], n: usize, event: u8) -> u8
+    ensures { λ r. ⌜ (r ≡ levelByte (levelOn (now (lines .entry)) n event))
+        × (now (lines .exit)
+        ≡ turnStatesOf (now (image .entry)) (now (lines .entry)) n event (levelOn (now (lines .entry)) n event)) ⌝ }
+{
+    let scan = bus::level(lines, n, event);
+    bus::step_all(image, lines, n, event, scan.level);
+    level_byte(scan.level)
+}
+
+// The master takes a step, and the code that the step completed, if it did, is stored. The search steps the master
+// nowhere else, as the compiler inlines a function of this size only where it has one caller.
 fn stepped(codes: &mut [u8], master: Master, level: u8) -> Step
     ensures { λ r. ⌜ (r ≡ stepOf master level)
         × (now (codes .exit) ≡ sets (now (codes .entry)) (codeBytes * master .passes)
-        (codeCompleted (master .passes) (nextOf master level))) ⌝ }
+        (codeCompleted (master .passes) (nextMaster master level))) ⌝ }
 {
     let completed = master.passes();
     let step = master.step(level);
@@ -155,7 +169,7 @@ fn slots_in(trace: &[u8]) -> u64
     count
 }
 
-// A reset with a slot right after it.
+// A pass begins with a reset that has a slot right after it.
 fn begins_pass(event: u8, after: u8) -> bool
     ensures { λ r. ⌜ r ≡ (isReset event && isSlot after) ⌝ }
 {
@@ -176,7 +190,7 @@ fn passes_in(trace: &[u8]) -> u64
     count
 }
 
-// The number, and the counts of the events that were sent: the first so many of the trace.
+// The events that were sent are the first `sent` bytes of the trace; passes, resets and slots are counted in them.
 fn tally(number: u32, trace: &[u8], sent: usize) -> Found
     requires { ⌜ sent ≤ length (now trace) ⌝ }
     ensures { λ r. ⌜ r ≡ foundIn number (take sent (now (trace .entry))) ⌝ }
@@ -194,15 +208,17 @@ fn tally(number: u32, trace: &[u8], sent: usize) -> Found
 
 // ---- the search
 
-// The exchanges of an image that is not refused, on devices that wait: each event that the master answers goes to the
-// devices as the one before left them, and the level that they answer to the master's next step. The first step is
-// given a level too, which it does not look at. Gives the number of events.
+// These are the exchanges for an image that is not refused, on devices that wait: each event that the master answers
+// goes to the devices as the one before left them, and the level that they answer goes to the master's next step. The
+// first step is given a level too, which it does not look at. The number of events is returned.
 fn exchange(image: &[u8], codes: &mut [u8], trace: &mut [u8], lines: &mut [LineState]) -> usize
     requires { ⌜ Ready (now image) (now codes) (now trace) (now lines) ⌝ }
     ensures { λ r. ⌜ (r ≡ length (searchOf (now (image .entry)) .trace))
-        × (now (codes .exit) ≡ over (searchOf (now (image .entry)) .codes) (now (codes .entry)))
-        × (now (trace .exit) ≡ over (searchOf (now (image .entry)) .trace) (now (trace .entry)))
-        × (now (lines .exit) ≡ statesOf (searchOf (now (image .entry)) .devices) ++ drop (countOf (now (image .entry))) (now (lines .entry))) ⌝ }
+        × (now (codes .exit) ≡ writtenOver (searchOf (now (image .entry)) .codes) (now (codes .entry)))
+        × (now (trace .exit) ≡ writtenOver (searchOf (now (image .entry)) .trace) (now (trace .entry)))
+        × (now (lines .exit)
+        ≡ statesOf (searchOf (now (image .entry)) .devices)
+        ++ drop (countOf (now (image .entry))) (now (lines .entry))) ⌝ }
 {
     let n = bus::device_count(image);
     let mut master = Master::fresh();
@@ -216,18 +232,18 @@ fn exchange(image: &[u8], codes: &mut [u8], trace: &mut [u8], lines: &mut [LineS
         if going {
             let event = event_in(step);
             bits::put_byte(trace, sent, event);
-            let line = bus::level(lines, n, event);
-            bus::step_all(image, lines, n, event, line);
-            level = level_byte(line);
+            level = answered(image, lines, n, event);
             sent = sent + 1;
         }
     }
     sent
 }
 
-// The search. What is refused changes nothing; else every device starts waiting, whatever the line states held.
+// A search that is refused changes nothing; in any other every device starts waiting, whatever the line states held.
 pub fn search(image: &[u8], codes: &mut [u8], trace: &mut [u8], lines: &mut [LineState]) -> Found
-    ensures { λ r. ⌜ SearchLeaves (searchedOf (now (image .entry)) (now (codes .entry)) (now (trace .entry)) (now (lines .entry))) r (now (codes .exit)) (now (trace .exit)) (now (lines .exit))
+    ensures { λ r. ⌜ SearchLeaves
+        (searchOutcomeOf (now (image .entry)) (now (codes .entry)) (now (trace .entry)) (now (lines .entry))) r
+        (now (codes .exit)) (now (trace .exit)) (now (lines .exit))
         × (r .number ≡ 0 → Searched (now (image .entry)) (searchOf (now (image .entry)))) ⌝ }
 {
     let number = refusal(image, codes.len(), trace.len(), lines.len());

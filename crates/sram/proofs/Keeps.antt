@@ -12,8 +12,8 @@ use Rattle.kind.specs.Kind.{codeLength, ta1, ta2, es, scratchpad, memory}
 use Rattle.line.specs.declared.SramStage.{SramStage}
 use Rattle.line.specs.declared.SramStage.the-variants.{WriteLow, WriteHigh, WriteData, ReadRegister, ReadScratchpad}
 use Rattle.line.specs.declared.SramStage.the-variants.{CopyPattern, Copied, ReadLow, ReadHigh, ReadMemory}
-use Rattle.sram.specs.Sram.{pf, of, aa, target, loadTarget, beginByte, storeBit, writeBit, endData, copyBytes}
-use Rattle.sram.specs.Sram.{copyToMemory, acceptCopy, patternSame, patternWrite, sramWrite, sramReset}
+use Rattle.sram.specs.Sram.{pf, of, aa, targetAddress, loadAddress, loadTarget, beginByte, storeBit, writeBit, endData}
+use Rattle.sram.specs.Sram.{copyBytes, copyToMemory, acceptCopy, patternSame, patternWrite, sramWrite, sramReset}
 
 -- a body and one after it, of the same length and the same registration code
 pub record Keeps (body after : List ℕ) : Type 0 where
@@ -44,13 +44,15 @@ sets-keeps [] body i h = kept
 sets-keeps (v ∷ vs) body i h = then (set-keeps body i v h) (sets-keeps vs (set body i v) (suc i) (omega arith))
 
 -- each change that a memory function makes
+address-keeps : (low high : ℕ) (body : List ℕ) → Keeps body (loadAddress low high body)
+unfolding loadAddress
+address-keeps low high body =
+    then (set-keeps body ta1 low (omega arith)) (set-keeps (set body ta1 low) ta2 high (omega arith))
+
 load-keeps : (low high : ℕ) (body : List ℕ) → Keeps body (loadTarget low high body)
 unfolding loadTarget
 load-keeps low high body =
-    let first = set body ta1 low in
-    let second = set first ta2 high in
-    then (set-keeps body ta1 low (omega arith))
-    (then (set-keeps first ta2 high (omega arith)) (set-keeps second es (low % 32) (omega arith)))
+    then (address-keeps low high body) (set-keeps (loadAddress low high body) es (low % 32) (omega arith))
 
 begin-keeps : (offset bit : ℕ) (body : List ℕ) → Keeps body (beginByte offset bit body)
 unfolding beginByte
@@ -77,7 +79,7 @@ end-keeps sent body = either (ltb 0 sent && not (bitAt body of)) (put-keeps body
 accept-keeps : (size : ℕ) (body : List ℕ) → Keeps body (acceptCopy size body)
 unfolding acceptCopy copyToMemory
 accept-keeps size body =
-    then (sets-keeps (copyBytes size body) body (memory + target body) (omega arith))
+    then (sets-keeps (copyBytes size body) body (memory + targetAddress body) (omega arith))
     (put-keeps (copyToMemory size body) aa _ (omega arith))
 
 pub write-keeps : (s : SramStage) (size value : ℕ) (body : List ℕ) (level : Bool)
@@ -92,7 +94,7 @@ write-keeps (CopyPattern at same) size value body level =
     either (ltb at 2) kept (either (patternSame at same value body) (accept-keeps size body) kept)
 write-keeps Copied size value body level = kept
 write-keeps ReadLow size value body level = kept
-write-keeps (ReadHigh low) size value body level = kept
+write-keeps (ReadHigh low) size value body level = address-keeps low value body
 write-keeps (ReadMemory low high) size value body level = kept
 
 pub reset-keeps : (s : SramStage) (body : List ℕ) → Keeps body (sramReset s body)

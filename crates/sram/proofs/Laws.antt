@@ -1,4 +1,4 @@
--- Laws of the DS1992/DS1993 memory stage: a copy byte by byte. Assumes nothing.
+-- Laws of the DS1992/DS1993 memory stage: a copy byte by byte, and how many bytes it writes at most. Assumes nothing.
 use Prim.Native.Nat.{ℕ, suc, _+_, _-_, _<_, _≤_}
 use mathlib.Core.Path.{_≡_, refl, sym, ap, _∙_}
 use mathlib.Core.Bool.{Bool, true, false, cond, _||_}
@@ -10,7 +10,12 @@ use lib.ListN.{length, getD, set, take, drop, length-drop}
 use lib.Seq.{sets, length-sets, getD-set-other, set-out, take-suc, take-all, getD-drop, length-take-le}
 use lib.Dec.{ltb, leb}
 use borrow.Author.Tests.{ltb-true, ltb-false}
-use Rattle.sram.specs.Sram.{endingOffset, target, targetOffset, copyLength}
+use Rattle.line.specs.declared.SramStage.{SramStage}
+use Rattle.line.specs.declared.SramStage.the-variants.{WriteLow, WriteHigh, WriteData, ReadRegister, ReadScratchpad}
+use Rattle.line.specs.declared.SramStage.the-variants.{CopyPattern, Copied, ReadLow, ReadHigh, ReadMemory}
+use Rattle.sram.specs.declared.CopyDone.the-variants.{NoCopy}
+use Rattle.sram.specs.Sram.{endingOffset, targetAddress, targetOffset, patternSame, copyLength, copyMade}
+use Rattle.sram.specs.Sram.{bytesCopied, patternCopy, sramCopy}
 
 -- bytes stored from a place on leave what stands before it
 getD-sets : (vs l : List ℕ) (i j : ℕ) → j < i → getD (sets l i vs) j 0 ≡ getD l j 0
@@ -56,9 +61,28 @@ copy-one-more l from to k h = choose (ltb (from + k) (length l)) refl
 -- what is copied is in the scratchpad
 pub copy-in-scratchpad : (size : ℕ) (body : List ℕ) → targetOffset body + copyLength size body ≤ 32
 unfolding copyLength
-copy-in-scratchpad size body = choose (ltb (endingOffset body) (targetOffset body)) (leb size (target body))
+copy-in-scratchpad size body = choose (ltb (endingOffset body) (targetOffset body)) (leb size (targetAddress body))
   where
     choose : (t u : Bool) → targetOffset body + cond (t || u) 0 (endingOffset body + 1 - targetOffset body) ≤ 32
     choose true u = omega arith
     choose false true = omega arith
     choose false false = omega arith
+
+-- no end of a transfer copies more than the scratchpad has
+pub copied-most : (s : SramStage) (size value : ℕ) (body : List ℕ) → bytesCopied (sramCopy s size value body) ≤ 32
+unfolding sramCopy bytesCopied patternCopy
+copied-most WriteLow size value body = omega arith
+copied-most (WriteHigh low) size value body = omega arith
+copied-most (WriteData offset bit) size value body = omega arith
+copied-most (ReadRegister at) size value body = omega arith
+copied-most (ReadScratchpad offset) size value body = omega arith
+copied-most (CopyPattern at same) size value body = choose (ltb at 2) (patternSame at same value body)
+  where
+    choose : (t u : Bool) → bytesCopied (cond t NoCopy (cond u (copyMade size body) NoCopy)) ≤ 32
+    choose true u = omega arith
+    choose false true = omega (arith, copy-in-scratchpad size body)
+    choose false false = omega arith
+copied-most Copied size value body = omega arith
+copied-most ReadLow size value body = omega arith
+copied-most (ReadHigh low) size value body = omega arith
+copied-most (ReadMemory low high) size value body = omega arith

@@ -13,7 +13,7 @@ use Rattle.line.specs.declared.SramStage.the-variants.{CopyPattern, Copied, Rea
 use Rattle.line.specs.declared.Transfer.{Transfer}
 use Rattle.line.specs.Transfers.{waiting, underWay, sending}
 use Rattle.line.proofs.Range.{both, fewer, fewer-beside, slot-left, slot-left-beside}
-use Rattle.sram.specs.Sram.{inSram, addressOf, targetOffset, writeData, afterData, afterRegister, afterScratchpad}
+use Rattle.sram.specs.Sram.{inSram, addressOf, targetOffset, writeDataBit, afterDataBit, afterRegister, afterScratchpad}
 use Rattle.sram.specs.Sram.{patternSame, afterPattern, readMemory, sramCommand, sramNext, dataRange, sramRange}
 
 -- the device waits, or is in a memory function with its numbers in range
@@ -76,7 +76,7 @@ module _ (size : ℕ) where
 
   -- ---- after the last slot of a transfer
 
-  data-ranged : (offset bit : ℕ) → dataRange offset bit ≡ true → Ranged size (writeData offset bit)
+  data-ranged : (offset bit : ℕ) → dataRange offset bit ≡ true → Ranged size (writeDataBit offset bit)
   unfolding sramRange
   data-ranged offset bit h = ranged (WriteData offset bit) 0xFF 1 (rw h)
 
@@ -105,7 +105,7 @@ module _ (size : ℕ) where
 
   pub next-ranged : (s : SramStage) (left value : ℕ) (body : List ℕ) → sramRange s size left ≡ true
       → Ranged size (sramNext s size value body)
-  unfolding sramNext afterData afterRegister afterScratchpad afterPattern sramRange
+  unfolding sramNext afterDataBit afterRegister afterScratchpad afterPattern sramRange
   next-ranged WriteLow left value body h = begins (WriteHigh value) refl
   next-ranged (WriteHigh low) left value body h =
       data-ranged (low % 32) 0 (place-ranged (low % 32) 0 (omega arith) (omega arith))

@@ -1,19 +1,49 @@
--- What the host sees of a search, from what is had of it. Assumes nothing.
+-- What the host sees of a run and of a search, from what is had of each. Assumes nothing.
 use Prim.Native.Nat.{ℕ, zero, suc}
 use mathlib.Core.Path.{_≡_, refl, sym, ap, subst, _∙_}
 use mathlib.Core.List.{List}
+use Rattle.bus.specs.declared.RunResult.{RunResult}
+use Rattle.bus.specs.Run.{RunOutcome}
 use Rattle.search.specs.declared.Found.{Found}
 use Rattle.search.specs.Found.{SearchOutcome}
-use Rattle.troughiron.specs.Host.{OwnSearchLeaves, counted, HostSearchLeaves}
+use Rattle.troughiron.specs.Host.{OwnRunLeaves, HostRunLeaves, OwnSearchLeaves, countAfter, HostSearchLeaves}
 
-counted-now : (number count before : ℕ) → number ≡ 0 → counted number count before ≡ count
-unfolding counted
-counted-now number count before e = ap (λ (n : ℕ). counted n count before) e
+counted-now : (number count before : ℕ) → number ≡ 0 → countAfter number count before ≡ count
+unfolding countAfter
+counted-now number count before e = ap (λ (n : ℕ). countAfter n count before) e
 
-counted-not : (number count before : ℕ) → (number ≡ 0 → ⊥) → counted number count before ≡ before
-unfolding counted
+counted-not : (number count before : ℕ) → (number ≡ 0 → ⊥) → countAfter number count before ≡ before
+unfolding countAfter
 counted-not zero count before h = absurd (h refl)
 counted-not (suc number) count before h = refl
+
+-- ---- a run
+
+module _ (left : RunOutcome) (copied : ℕ) (result : RunResult) (image answers : List ℕ)
+    (leaves : OwnRunLeaves left result image answers) where
+  same-number : left .result .number ≡ result .number
+  same-number = ap (λ (r : RunResult). r .number) (sym (leaves .result-is))
+
+  -- not refused: the bytes copied are written
+  pub sees-copied : result .number ≡ 0 → HostRunLeaves left copied (result .number) image answers (result .copied)
+  sees-copied e = record {
+    number-is = sym same-number;
+    image-is = leaves .image-is;
+    answers-are = leaves .answers-are;
+    copied-is = ap (λ (r : RunResult). r .copied) (leaves .result-is)
+        ∙ sym (counted-now (left .result .number) (left .result .copied) copied (same-number ∙ e));
+  }
+
+  -- refused: they are not
+  pub sees-refused : (result .number ≡ 0 → ⊥) → HostRunLeaves left copied (result .number) image answers copied
+  sees-refused h = record {
+    number-is = sym same-number;
+    image-is = leaves .image-is;
+    answers-are = leaves .answers-are;
+    copied-is = sym (counted-not (left .result .number) (left .result .copied) copied (λ z. h (sym same-number ∙ z)));
+  }
+
+-- ---- a search
 
 module _ (left : SearchOutcome) (passes resets slots : ℕ) (found : Found) (codes trace : List ℕ) (finds : OwnSearchLeaves left found codes trace) where
   same : left .found .number ≡ found .number

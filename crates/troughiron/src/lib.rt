@@ -1,27 +1,49 @@
-// What a C program calls, on numbers and byte slices.
+// This crate is what a C program calls, on numbers and byte slices.
+use bus::RunResult;
 use device::LineState;
 use image::ACCEPTED;
 use search::Found;
 ghost use mathlib.Core.Path.{_≡_};
 ghost use mathlib.Core.Bool.{cond};
-ghost use Rattle.bits.specs.Crc.{registered};
-ghost use Rattle.discovery.specs.Search.{searchOf};
-ghost use Rattle.discovery.specs.Searched.{Searched};
-ghost use Rattle.troughiron.specs.Host.{HostRunLeaves, hostRun, OwnSearchLeaves, HostSearchLeaves, hostSearch};
+ghost use Rattle.bits.specs.Crc.{registrationCheck};
+ghost use Rattle.search_laws.specs.Search.{searchOf};
+ghost use Rattle.search_laws.specs.Searched.{Searched};
+ghost use Rattle.troughiron.specs.Host.{OwnRunLeaves, HostRunLeaves, hostRun};
+ghost use Rattle.troughiron.specs.Host.{OwnSearchLeaves, HostSearchLeaves, hostSearch};
 
-// The run, with 64 line states of its own: as many as an image has devices.
-#[no_mangle]
-pub extern "C" fn troughiron_run(image: &mut [u8], trace: &[u8], answers: &mut [u8]) -> u32
-    ensures { λ r. ⌜ HostRunLeaves (hostRun (now (image .entry)) (now (trace .entry)) (now (answers .entry))) r (now (image .exit)) (now (answers .exit)) ⌝ }
+// The run has 64 line states of its own, as an image has at most 64 devices.
+fn run_own(image: &mut [u8], trace: &[u8], answers: &mut [u8]) -> RunResult
+    ensures { λ r. ⌜ OwnRunLeaves (hostRun (now (image .entry)) (now (trace .entry)) (now (answers .entry))) r
+        (now (image .exit)) (now (answers .exit)) ⌝ }
 {
     let waiting = LineState::waiting();
     let mut lines = [waiting; 64];
     bus::run(image, trace, answers, &mut lines)
 }
 
-// The search, with 64 line states of its own.
+// The run writes the number of bytes copied only where it is not refused.
+#[no_mangle]
+pub extern "C" fn troughiron_run(
+    image: &mut [u8],
+    trace: &[u8],
+    answers: &mut [u8],
+    copied: &mut u64,
+) -> u32
+    ensures { λ r. ⌜ HostRunLeaves (hostRun (now (image .entry)) (now (trace .entry)) (now (answers .entry)))
+        (now (copied .entry)) r (now (image .exit)) (now (answers .exit)) (now (copied .exit)) ⌝ }
+{
+    let result = run_own(image, trace, answers);
+    let refusal = result.number;
+    if refusal == ACCEPTED {
+        *copied = result.copied;
+    }
+    refusal
+}
+
+// The search has 64 line states of its own, as an image has at most 64 devices.
 fn search_own(image: &[u8], codes: &mut [u8], trace: &mut [u8]) -> Found
-    ensures { λ r. ⌜ OwnSearchLeaves (hostSearch (now (image .entry)) (now (codes .entry)) (now (trace .entry))) r (now (codes .exit)) (now (trace .exit))
+    ensures { λ r. ⌜ OwnSearchLeaves (hostSearch (now (image .entry)) (now (codes .entry)) (now (trace .entry))) r
+        (now (codes .exit)) (now (trace .exit))
         × (r .number ≡ 0 → Searched (now (image .entry)) (searchOf (now (image .entry)))) ⌝ }
 {
     let waiting = LineState::waiting();
@@ -29,7 +51,7 @@ fn search_own(image: &[u8], codes: &mut [u8], trace: &mut [u8]) -> Found
     search::search(image, codes, trace, &mut lines)
 }
 
-// The search. The numbers of passes, resets and slots are written where it is not refused.
+// The search writes the numbers of passes, resets and slots only where it is not refused.
 #[no_mangle]
 pub extern "C" fn troughiron_search(
     image: &[u8],
@@ -39,7 +61,9 @@ pub extern "C" fn troughiron_search(
     resets: &mut u64,
     slots: &mut u64,
 ) -> u32
-    ensures { λ r. ⌜ HostSearchLeaves (hostSearch (now (image .entry)) (now (codes .entry)) (now (trace .entry))) (now (passes .entry)) (now (resets .entry)) (now (slots .entry)) r (now (codes .exit)) (now (trace .exit)) (now (passes .exit)) (now (resets .exit)) (now (slots .exit))
+    ensures { λ r. ⌜ HostSearchLeaves (hostSearch (now (image .entry)) (now (codes .entry)) (now (trace .entry)))
+        (now (passes .entry)) (now (resets .entry)) (now (slots .entry)) r (now (codes .exit)) (now (trace .exit))
+        (now (passes .exit)) (now (resets .exit)) (now (slots .exit))
         × (r ≡ 0 → Searched (now (image .entry)) (searchOf (now (image .entry)))) ⌝ }
 {
     let found = search_own(image, codes, trace);
@@ -52,10 +76,10 @@ pub extern "C" fn troughiron_search(
     number
 }
 
-// The registration check: 1 is yes, 0 is no.
+// The registration check returns 1 for yes and 0 for no.
 #[no_mangle]
 pub extern "C" fn troughiron_registration_check(code: &[u8]) -> u32
-    ensures { λ r. ⌜ r ≡ cond (registered (now (code .entry))) 1 0 ⌝ }
+    ensures { λ r. ⌜ r ≡ cond (registrationCheck (now (code .entry))) 1 0 ⌝ }
 {
     if bits::registration_check(code) { 1 } else { 0 }
 }

@@ -1,7 +1,8 @@
-// Published registration codes and small images, run through the registration check and the image's refusals.
+// This program runs published registration codes and small images through the registration check and the image's
+// refusals.
 //
-// The codes are those engraved in the data sheets of the DS1996 and DS1982, and the worked example of the CRC. What is printed is
-// compared with a stored text.
+// The codes are those engraved in the data sheets of the DS1996 and DS1982, and the worked example of the CRC. What is
+// printed is compared with a stored text.
 use libc::STDOUT_FILENO;
 
 // The first body starts after the count, the edition and three entries of four bytes.
@@ -17,7 +18,7 @@ fn print(text: &[u8]) {
     io::write_all(STDOUT_FILENO, text);
 }
 
-// The first n bytes of a slice.
+// These are the first n bytes of a slice.
 fn first(s: &[u8], n: usize) -> &[u8] {
     if n <= s.len() { &s[0..n] } else { s }
 }
@@ -31,7 +32,7 @@ fn print_code(code: &[u8; 8]) {
     }
 }
 
-// How many of the 64 codes that differ in one bit are refused.
+// This counts how many of the 64 codes that differ in one bit are refused.
 fn refused_damages(code: [u8; 8]) -> u64 {
     let mut refused: u64 = 0;
     let mut i = 0;
@@ -65,14 +66,14 @@ fn check(code: [u8; 8]) {
     print(b"\n");
 }
 
-// A code of a family and a serial number of one byte, with its CRC.
+// This is a code of a family and a serial number of one byte, with its CRC.
 fn code_of(family: u8, serial: u8) -> [u8; 8] {
     let mut code = [family, serial, 0, 0, 0, 0, 0, 0];
     code[7] = bits::crc_from(0, first(&code, 7));
     code
 }
 
-// Writes a code at the start of a body.
+// This writes a code at the start of a body.
 fn put_code(image: &mut [u8], start: u16, code: [u8; 8]) {
     let mut k = 0;
     while k < 8 {
@@ -81,7 +82,7 @@ fn put_code(image: &mut [u8], start: u16, code: [u8; 8]) {
     }
 }
 
-// Writes the entry of device i, whose body starts at start, and its code there.
+// This writes the entry of device i, whose body starts at `start`, and its code there.
 fn place(image: &mut [u8], i: u8, start: u16, code: [u8; 8]) {
     let entry = 2 + 4 * (i as usize);
     bits::put_byte(image, entry, code[0]);
@@ -90,7 +91,7 @@ fn place(image: &mut [u8], i: u8, start: u16, code: [u8; 8]) {
     put_code(image, start, code);
 }
 
-// A DS1982, a DS1992 and a DS1982.
+// This is an image of a DS1982, a DS1992 and a DS1982.
 fn three_devices() -> [u8; LENGTH] {
     let mut image = [0u8; LENGTH];
     image[0] = 3;
@@ -111,14 +112,14 @@ fn three_devices() -> [u8; LENGTH] {
     image
 }
 
-// The image with one byte changed.
+// This is the image with one byte changed.
 fn with(image: [u8; LENGTH], at: u16, byte: u8) -> [u8; LENGTH] {
     let mut changed = image;
     bits::put_byte(&mut changed, at as usize, byte);
     changed
 }
 
-// The image with another code where a body starts.
+// This is the image with another code where a body starts.
 fn with_code(image: [u8; LENGTH], start: u16, code: [u8; 8]) -> [u8; LENGTH] {
     let mut changed = image;
     put_code(&mut changed, start, code);
@@ -132,7 +133,7 @@ fn report(label: &[u8], image: &[u8]) {
     print(b"\n");
 }
 
-// The same of the first n bytes of an image of three devices.
+// This reports the refusal of the first n bytes of an image of three devices.
 fn report_first(label: &[u8], image: [u8; LENGTH], n: usize) {
     report(label, first(&image, n));
 }
@@ -151,12 +152,12 @@ fn small_images() {
     report(b"its first 176 bytes", first(&image, 176));
 }
 
-// Each cause alone. The last is between devices that are not neighbours.
+// Each cause comes alone. In the last the equal codes are those of devices that are not neighbours.
 fn single_causes(image: [u8; LENGTH]) {
     report(b"three devices", &image);
     report_first(b"1: shorter than its entries", image, 13);
     report(b"1: more than 64 devices", &with(image, 0, 65));
-    report(b"1: edition 2", &with(image, 1, 2));
+    report(b"1: edition 3", &with(image, 1, 3));
     report(b"1: second entry byte 1 at device 2", &with(image, 11, 1));
     report(b"1: unknown family at device 1", &with(image, 6, 0x0C));
     report(b"2: offset of device 1 one more", &with(image, 8, 159));
@@ -174,7 +175,7 @@ fn single_causes(image: [u8; LENGTH]) {
     );
 }
 
-// Two causes, the lower number's at the later device: the lower number wins over the whole image.
+// Two causes come together, the lower number's at the later device: the lower number wins over the whole image.
 fn cause_pairs(image: [u8; LENGTH]) {
     let doubled = with_code(image, THIRD, [0x09, 0x2B, 0xC5, 0xFB, 0, 0, 0, 0x97]);
     report(b"1 and 2", &with(with(image, 4, 15), 10, 0x0C));
@@ -183,6 +184,15 @@ fn cause_pairs(image: [u8; LENGTH]) {
     report(b"2 and 3", &with(with(image, FIRST + 7, 0), 12, 0));
     report_first(b"2 and 4", doubled, 472);
     report(b"3 and 4", &with(doubled, SECOND + 7, 0));
+}
+
+// In edition 2 the second byte of an entry is 1 where the battery is flat, which is refused on a DS1982.
+fn second_edition(image: [u8; LENGTH]) {
+    let second = with(image, 1, 2);
+    report(b"three devices, edition 2", &second);
+    report(b"flat battery of the DS1992", &with(second, 7, 1));
+    report(b"1: second entry byte 2 at the DS1992", &with(second, 7, 2));
+    report(b"1: flat battery of a DS1982", &with(second, 11, 1));
 }
 
 fn main() {
@@ -194,4 +204,5 @@ fn main() {
     let image = three_devices();
     single_causes(image);
     cause_pairs(image);
+    second_edition(image);
 }

@@ -1,1 +1,1 @@
-// What walks over a lent slice of structs share: this crate has no code, its proofs/ hold the lemmas.
+// The walks over a lent slice of structs share these lemmas. This crate has no code: its proofs/ hold them.

@@ -1,6 +1,6 @@
 -- `bus::fill` meets its contract: a walk of its MIR, with a loop that stores one line state at each of the first n
 -- places.
--- The borrow is opened once, before the loop, and closed once, after it. Between the two the row of `filled i v ys` is
+-- The borrow is opened once, before the loop, and closed once, after it. Between the two the row of `filledUpTo i v ys` is
 -- the function's own.
 -- Assumes nothing. `Walk.antt` of `walks` says how a walk is written.
 use Rattle.walks.proofs.Walk.{refl, sym, subst, ℕ, _<_, _≤_, _*_, _^_, arith, [], _∷_, List, length, lit<, URA}
@@ -11,7 +11,7 @@ use Rattle.walks.proofs.Walk.{void, has, Blocks, env, stand, quits, lowers, Wal
 use Rattle.walks.proofs.Walk.{new, bump, whiles, ptr, val, points, Opened, opens-mut, closes-mut, onto-row}
 use Rattle.device.specs.declared.LineState.{LineState}
 use Rattle.device.specs.Device.{waitingState}
-use Rattle.bus.specs.Loops.{filled}
+use Rattle.bus.specs.Loops.{filledUpTo}
 use Rattle.bus.proofs.Laws.{filled-length}
 use Rattle.bus.proofs.Lines.{width, fits-at, fits-next, R, mach, typed, line}
 use Rattle.bus.proofs.Shapes.{fill-shape as shape}
@@ -37,7 +37,7 @@ module _ {M : Type 1} (𝓤 : URA M) (H : Heap 𝓤) (A : Atoms 𝓤) (W : Given
   o = x .ptr .1
 
   abbrev us : ℕ → List LineState
-  us i = filled i v ys
+  us i = filledUpTo i v ys
 
   -- the locals after i turns, and behind them [the row; the open borrow]
   abbrev vs : ℕ → List Cell
@@ -48,7 +48,7 @@ module _ {M : Type 1} (𝓤 : URA M) (H : Heap 𝓤) (A : Atoms 𝓤) (W : Given
       (‵ (row R fullShare (us i) b o) ∷ ‵ (Opened R (κs .0) (qs .0) (x .name) ys b o) ∷ [])
 
   walk : Walk 𝓤 H shape A W (fill.clauses 𝓤 H A mem run) Ask 𝓣 code.function κs qs tt (x, (n, (v, tt))) tt
-  unfolding filled
+  unfolding filledUpTo
   walk are few =
       enters ! shape κs (x, (n, (v, tt))) 𝓣 code.function are refl (λ bs.
       new ! (of-opd ! (lit ! tt)) refl (tt, record { fits = lit< tt }) $

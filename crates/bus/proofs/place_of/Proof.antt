@@ -8,7 +8,7 @@ use borrow.Author.Tests.{lt-ltb, le-ltb, le-leb, lt-leb}
 use mathlib.Core.Path.{_≡_, ap, _∙_}
 use native.Mathlib.Omega.{arith}
 use Rattle.bus.specs.Loops.{placeIn}
-use Rattle.image.specs.Image.{entryOf, familyAt, offsetAt, kindAt, countOf}
+use Rattle.image.specs.Image.{entryOf, familyAt, flatAt, offsetAt, kindAt, countOf}
 use Rattle.image.proofs.Laws.{size-bound}
 use borrow.Author.Needs.{needs}
 use Rattle.bus.proofs.place_of.Statement.{statement}
@@ -22,7 +22,7 @@ add-end c =
     let i = s .args .i in
     let size : c .body-size .result ≡ bodySize (kindAt image i) = c .body-size .ensures ∙ ap (λ (e : Entry). bodySize (e .kind)) (c .before .entry-at .ensures) in
     let start : c .before .entry-at .result .start ≡ offsetAt image i = ap (λ (e : Entry). e .start) (c .before .entry-at .ensures) in
-    omega (arith, size-bound (familyAt image i), c .before .before .before .before .before .shared-slice-known .given (2 + 4 * i + 2), c .before .before .before .before .before .shared-slice-known .given (2 + 4 * i + 3))
+    omega (arith, size-bound (familyAt image i) (flatAt image i), c .before .before .before .before .before .shared-slice-known .given (2 + 4 * i + 2), c .before .before .before .before .before .shared-slice-known .given (2 + 4 * i + 3))
 
 returns : tie.Need-returns
 unfolding placeIn entryOf

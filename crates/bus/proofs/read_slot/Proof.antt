@@ -2,7 +2,7 @@ use mathlib.Core.Path.{refl, sym, _∙_}
 use native.Mathlib.Omega.{arith}
 use borrow.Author.Needs.{needs}
 use Rattle.bus.specs.Bus.{eventOf}
-use Rattle.bus.specs.Loops.{idleIn, stateAsItIs, deviceAt, deviceIn, turnState}
+use Rattle.bus.specs.Loops.{passedOver, nextStateAsIs, deviceAtPlace, deviceIn, turnState}
 use Rattle.bus.proofs.Idle.{inside-state}
 use Rattle.bus.proofs.Laws.{inside-of}
 use Rattle.bus.proofs.read_slot.Statement.{statement}
@@ -15,7 +15,7 @@ returns c =
     c .shifted .ensures ∙ inside-state (a .state) inside (a .image .now) (a .i) (a .level)
 
 returns-2 : tie.Need-returns-2
-unfolding turnState idleIn
+unfolding turnState passedOver
 returns-2 c = rw (sym (c .before .waits .ensures) ∙ c .if2 .taken)
 
 sub-step-as-is : tie.Need-sub-step-as-is
@@ -34,7 +34,7 @@ part-step-as-is-end c =
     omega arith
 
 returns-3 : tie.Need-returns-3
-unfolding turnState idleIn eventOf stateAsItIs deviceIn deviceAt
+unfolding turnState passedOver eventOf nextStateAsIs deviceIn deviceAtPlace
 returns-3 c =
     let awake = sym (c .before .before .before .before .waits .ensures) ∙ c .before .before .before .if2 .left in
     rw (awake, ← c .before .before .place-of .ensures) (c .step-as-is .ensures)

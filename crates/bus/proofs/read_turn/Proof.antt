@@ -2,7 +2,7 @@ use mathlib.Core.Bool.{true}
 use mathlib.Core.Path.{refl}
 use native.Mathlib.Omega.{arith}
 use borrow.Author.Needs.{needs}
-use Rattle.bus.specs.Loops.{deviceAt, deviceIn}
+use Rattle.bus.specs.Loops.{deviceAtPlace, deviceIn}
 use Rattle.bus.proofs.Idle.{over-two, pulse-turn, reset-turn}
 use Rattle.bus.proofs.Laws.{inside-of}
 use Rattle.bus.proofs.read_turn.Statement.{statement}
@@ -29,7 +29,7 @@ part-pulsed-as-is-end c =
     omega arith
 
 returns-2 : tie.Need-returns-2
-unfolding deviceIn deviceAt
+unfolding deviceIn deviceAtPlace
 returns-2 c =
     let s = c .before .before .before .before .before in
     let a = s .args in

@@ -10,25 +10,75 @@ returns : tie.Need-returns
 unfolding runRefusal runCauses imageRefusal
 returns c = c .before .refusal .ensures ∙ sym (first-some _ _ (λ z. c .if1 .taken (c .before .refusal .ensures ∙ z)))
 
+-- in each of these, the places of the tests that were left, from the last back to the first: pulse, reset, trace, image
+
 returns-2 : tie.Need-returns-2
 returns-2 c =
-    let a = c .before .before .before .before .before .before .args in
-    simp (run-causes (a .image .now) (a .trace .now) (a .answers) (a .lines) (sym (c .before .before .before .refusal .ensures) ∙ c .before .before .if1 .left), sym (c .before .is-bad-trace .ensures) ∙ c .if2 .taken)
+    let image = c .before .before in
+    let a = image .before .before .before .before .args in
+    simp (
+      run-causes (a .image .now) (a .trace .now) (a .answers) (a .lines)
+          (sym (image .before .refusal .ensures) ∙ image .if1 .left),
+      sym (c .before .is-bad-trace .ensures) ∙ c .if2 .taken,
+    )
 
 returns-3 : tie.Need-returns-3
 returns-3 c =
-    let a = c .before .before .before .before .before .before .before .before .args in
-    simp (run-causes (a .image .now) (a .trace .now) (a .answers) (a .lines) (sym (c .before .before .before .before .before .refusal .ensures) ∙ c .before .before .before .before .if1 .left), sym (c .before .before .before .is-bad-trace .ensures) ∙ c .before .before .if2 .left, sym (c .before .is-bad-pulse .ensures) ∙ c .if3 .taken)
+    let trace = c .before .before in
+    let image = trace .before .before in
+    let a = image .before .before .before .before .args in
+    simp (
+      run-causes (a .image .now) (a .trace .now) (a .answers) (a .lines)
+          (sym (image .before .refusal .ensures) ∙ image .if1 .left),
+      sym (trace .before .is-bad-trace .ensures) ∙ trace .if2 .left,
+      sym (c .before .lacks-first-reset .ensures) ∙ c .if3 .taken,
+    )
 
 returns-4 : tie.Need-returns-4
 returns-4 c =
-    let a = c .before .before .before .before .before .before .before .before .before .before .args in
-    simp (run-causes (a .image .now) (a .trace .now) (a .answers) (a .lines) (sym (c .before .before .before .before .before .before .before .refusal .ensures) ∙ c .before .before .before .before .before .before .if1 .left), sym (c .before .before .before .before .before .is-bad-trace .ensures) ∙ c .before .before .before .before .if2 .left, sym (c .before .before .before .is-bad-pulse .ensures) ∙ c .before .before .if3 .left, sym (c .before .lacks-room .ensures) ∙ c .if4 .taken)
+    let reset = c .before .before in
+    let trace = reset .before .before in
+    let image = trace .before .before in
+    let a = image .before .before .before .before .args in
+    simp (
+      run-causes (a .image .now) (a .trace .now) (a .answers) (a .lines)
+          (sym (image .before .refusal .ensures) ∙ image .if1 .left),
+      sym (trace .before .is-bad-trace .ensures) ∙ trace .if2 .left,
+      sym (reset .before .lacks-first-reset .ensures) ∙ reset .if3 .left,
+      sym (c .before .is-bad-pulse .ensures) ∙ c .if4 .taken,
+    )
 
 returns-5 : tie.Need-returns-5
 returns-5 c =
-    let a = c .before .before .before .before .before .before .before .before .before .before .args in
-    simp (run-causes (a .image .now) (a .trace .now) (a .answers) (a .lines) (sym (c .before .before .before .before .before .before .before .refusal .ensures) ∙ c .before .before .before .before .before .before .if1 .left), sym (c .before .before .before .before .before .is-bad-trace .ensures) ∙ c .before .before .before .before .if2 .left, sym (c .before .before .before .is-bad-pulse .ensures) ∙ c .before .before .if3 .left, sym (c .before .lacks-room .ensures) ∙ c .if4 .left)
+    let pulse = c .before .before in
+    let reset = pulse .before .before in
+    let trace = reset .before .before in
+    let image = trace .before .before in
+    let a = image .before .before .before .before .args in
+    simp (
+      run-causes (a .image .now) (a .trace .now) (a .answers) (a .lines)
+          (sym (image .before .refusal .ensures) ∙ image .if1 .left),
+      sym (trace .before .is-bad-trace .ensures) ∙ trace .if2 .left,
+      sym (reset .before .lacks-first-reset .ensures) ∙ reset .if3 .left,
+      sym (pulse .before .is-bad-pulse .ensures) ∙ pulse .if4 .left,
+      sym (c .before .lacks-room .ensures) ∙ c .if5 .taken,
+    )
+
+returns-6 : tie.Need-returns-6
+returns-6 c =
+    let pulse = c .before .before in
+    let reset = pulse .before .before in
+    let trace = reset .before .before in
+    let image = trace .before .before in
+    let a = image .before .before .before .before .args in
+    simp (
+      run-causes (a .image .now) (a .trace .now) (a .answers) (a .lines)
+          (sym (image .before .refusal .ensures) ∙ image .if1 .left),
+      sym (trace .before .is-bad-trace .ensures) ∙ trace .if2 .left,
+      sym (reset .before .lacks-first-reset .ensures) ∙ reset .if3 .left,
+      sym (pulse .before .is-bad-pulse .ensures) ∙ pulse .if4 .left,
+      sym (c .before .lacks-room .ensures) ∙ c .if5 .left,
+    )
 
 pub refusal-spec : {M : Type 1} → statement M
 refusal-spec =
@@ -42,4 +92,6 @@ refusal-spec =
     returns-3
     (λ c κs. search needs)
     returns-4
-    returns-5)
+    (λ c κs. search needs)
+    returns-5
+    returns-6)

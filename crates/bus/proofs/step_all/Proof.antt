@@ -14,7 +14,7 @@ use Rattle.walks.proofs.Walk.{val, again, ifs, lands-new, ends-new, also, lends
 use lib.Dec.{ltb}
 use borrow.Author.Tests.{ltb-true, ltb-false}
 use Rattle.device.specs.declared.LineState.{LineState}
-use Rattle.bus.specs.Loops.{fewerOf, statesAfter}
+use Rattle.bus.specs.Loops.{fewerOf, turnStatesOf}
 use Rattle.bus.proofs.Idle.{states-slot, states-other}
 use Rattle.bus.proofs.Laws.{fewer-second}
 use Rattle.bus.proofs.States.{states-fewer, states-length}
@@ -59,7 +59,7 @@ module _ {M : Type 1} (𝓤 : URA M) (H : Heap 𝓤) (A : Atoms 𝓤) (W : Given
   n = fewerOf c (length ys)
 
   abbrev us : List LineState
-  us = statesAfter im ys c v t
+  us = turnStatesOf im ys c v t
 
   -- the parameters, the number and the test, then other locals; behind them the tokens, the image, and the lines at exit
   abbrev vs : List Cell → List Cell
@@ -107,7 +107,7 @@ module _ {M : Type 1} (𝓤 : URA M) (H : Heap 𝓤) (A : Atoms 𝓤) (W : Given
       (qs .0, (fullShare, tt)) tt
       (x, (under x′ β ys, (n, (t, tt))))
       (val x ∷ [], (val x′ ∷ [], (vint w64 n ∷ [], (vbool t ∷ [], tt)))) tt (n-is, (refl, tt)) (factI 𝓤 _ (emp 𝓤) few)
-      (λ r zs. zs .1 .0 ≡ statesAfter im ys n 1 t) (λ r zs. id⊢ 𝓤 _)
+      (λ r zs. zs .1 .0 ≡ turnStatesOf im ys n 1 t) (λ r zs. id⊢ 𝓤 _)
       tt (tt, (us, (tt, (tt, tt))))
       (λ r zs e. (
         refl,
@@ -128,7 +128,7 @@ module _ {M : Type 1} (𝓤 : URA M) (H : Heap 𝓤) (A : Atoms 𝓤) (W : Given
       (x, (under x′ β ys, (n, (v, tt))))
       (val x ∷ [], (val x′ ∷ [], (vint w64 n ∷ [], (vint w8 v ∷ [], tt)))) tt (n-is, (v-is, tt))
       (factI 𝓤 _ (emp 𝓤) (few, other))
-      (λ r zs. zs .1 .0 ≡ statesAfter im ys n v true) (λ r zs. id⊢ 𝓤 _)
+      (λ r zs. zs .1 .0 ≡ turnStatesOf im ys n v true) (λ r zs. id⊢ 𝓤 _)
       tt (tt, (us, (tt, (tt, tt))))
       (λ r zs e. (
         refl,

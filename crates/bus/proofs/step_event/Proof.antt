@@ -2,20 +2,21 @@
 -- `turn_all`, for a lifetime of the call, and come back.
 -- Each arm of the `if` ends in `leaves`, the code behind it. What the master sends in a slot and the level of another
 -- event have no part in a turn (`turns-slot`, `turns-other` of `Idle.antt`), so each leaves what the contract says.
+-- A reset and a program pulse copy nothing (`copied-other`), so there the sum stays at 0.
 -- All that it knows of its callees is that each meets its contract.
 -- Assumes nothing. `Walk.antt` of `walks` says how a walk is written.
-use Rattle.walks.proofs.Walk.{Bool, true, _≡_, refl, _∙_, ℕ, _<_, _≤_, [], _∷_, List, length, URA, fullShare}
+use Rattle.walks.proofs.Walk.{Bool, true, _≡_, refl, sym, _∙_, ℕ, _<_, _≤_, [], _∷_, List, length, lit<, URA, fullShare}
 use Rattle.walks.proofs.Walk.{named, w8, w64, vunit, vint, vbool, SProp, emp, id⊢, flft, Fun, factI, Lfts, Shares}
 use Rattle.walks.proofs.Walk.{givenOf, tables, tablesOf, Memory, Routine, Heap, Tables, Atoms, Given, Item, ‵, _$_, Sq}
-use Rattle.walks.proofs.Walk.{runs, atRet, !, move, look, lit, unit-lit, of-opd, no-more, bin, returns, Is, u8, u64, RefT}
+use Rattle.walks.proofs.Walk.{runs, atRet, !, move, look, lit, of-opd, no-more, bin, returns, Is, u8, u64, RefT}
 use Rattle.walks.proofs.Walk.{MutSlice, Room, cited, Cell, void, has, Blocks, env, stand, quits, lowers, Walk, End, Met}
-use Rattle.walks.proofs.Walk.{enters, asks-last, finishes, proved, var, new, to, under, ptr, val, again, ifs, ends-new}
+use Rattle.walks.proofs.Walk.{enters, asks-last, finishes, proved, var, new, to, under, ptr, val, again, ifs, ends-new, ends-renew}
 use Rattle.walks.proofs.Walk.{also, lends, backs}
 use lib.Dec.{ltb}
 use borrow.Author.Tests.{ltb-true, ltb-false}
 use Rattle.device.specs.declared.LineState.{LineState}
-use Rattle.bus.specs.Loops.{BusState, busState, turns}
-use Rattle.bus.proofs.Idle.{turns-slot, turns-other}
+use Rattle.bus.specs.Loops.{BusState, busState, turnsUpTo, copiedUpTo}
+use Rattle.bus.proofs.Idle.{turns-slot, turns-other, copied-slot, copied-other}
 use Rattle.bus.proofs.Laws.{turns-image-length, turns-lines-length}
 use Rattle.bus.proofs.Lines.{R, T-true, T-false}
 use Rattle.bus.proofs.Shapes.{step-event-shape as shape, slot-all-shape, turn-all-shape}
@@ -51,39 +52,43 @@ module _ {M : Type 1} (𝓤 : URA M) (H : Heap 𝓤) (A : Atoms 𝓤) (W : Given
   abbrev ys : List LineState
   ys = x′ .now
 
-  -- the state on entry, and that at exit
+  -- the state on entry, that at exit, and the bytes copied
   abbrev entry : BusState
   entry = busState im ys
 
   abbrev done : BusState
-  done = turns v t n entry
+  done = turnsUpTo v t n entry
+
+  abbrev cp : ℕ
+  cp = copiedUpTo v t n entry
 
   both : {s : BusState} → s ≡ done → _≡_ {A = List ℕ × (List LineState × (Unit {0} × (Unit {0} × Unit {0})))}
       (s .image, (s .lines, (tt, (tt, tt)))) (done .image, (done .lines, (tt, (tt, tt))))
   both e i = (e i .image, (e i .lines, (tt, (tt, tt))))
 
-  -- the parameters and the test, then other locals; behind them the tokens, and the slices at their lists
-  abbrev vs : List Cell → List Cell
-  vs ws = has (val x) ∷ has (val x′) ∷ has (vint w64 n) ∷ has (vint w8 v) ∷ has (vbool t) ∷ has (vbool (ltb v 2)) ∷ ws
+  -- the parameters, the sum and the test, then other locals; behind them the tokens, and the slices at their lists
+  abbrev vs : ℕ → List Cell → List Cell
+  vs c ws = has (val x) ∷ has (val x′) ∷ has (vint w64 n) ∷ has (vint w8 v) ∷ has (vbool t) ∷ has (vint w64 c)
+      ∷ has (vbool (ltb v 2)) ∷ ws
 
-  abbrev Had : Blocks (code.function .locals) → List Cell → List (Item 𝓤)
-  Had bs ws = stand (env 𝓤 H (code.function .locals) bs) (void ∷ vs ws)
+  abbrev Had : Blocks (code.function .locals) → ℕ → List Cell → List (Item 𝓤)
+  Had bs c ws = stand (env 𝓤 H (code.function .locals) bs) (void ∷ vs c ws)
       (‵ (flft (κs .0) (qs .0)) ∷ ‵ (flft (κs .1 .0) (qs .1 .0))
       ∷ ‵ (MutSlice (named 0) (κs .0) u8 .own (to x (done .image)) (val x ∷ []))
       ∷ ‵ (MutSlice (named 1) (κs .1 .0) R .own (to x′ (done .lines)) (val x′ ∷ [])) ∷ [])
 
   -- the code behind the `if`
-  leaves : (bs : Blocks (code.function .locals)) (ws : List Cell)
-      → Is u64 n (vint w64 n ∷ []) → Is u8 v (vint w8 v ∷ [])
-      → Sq W (Had bs ws) (runs (𝓣 .C) (𝓣 .Λ) (env 𝓤 H (code.function .locals) bs) mir.t-3
+  leaves : (bs : Blocks (code.function .locals)) (c : ℕ) (ws : List Cell)
+      → Is u64 c (vint w64 c ∷ []) → c ≡ cp → Is u64 n (vint w64 n ∷ []) → Is u8 v (vint w8 v ∷ [])
+      → Sq W (Had bs c ws) (runs (𝓣 .C) (𝓣 .Λ) (env 𝓤 H (code.function .locals) bs) mir.t-4
       (atRet (env 𝓤 H (code.function .locals) bs) (End 𝓤 H shape A (step-event.clauses 𝓤 H A mem run) κs qs tt a tt)))
-  leaves bs ws n-is v-is =
-      new ! (of-opd ! (unit-lit !)) refl (tt, tt) $ returns ! (look ! 0 refl) $
-      quits ! (has vunit ∷ vs ws) $
-      finishes 𝓤 H shape A (step-event.clauses 𝓤 H A mem run) κs qs tt a tt W ! tt
-      (done .image, (done .lines, (tt, (tt, (tt, tt))))) refl (n-is, (v-is, (refl, tt)))
+  leaves bs c ws c-is told n-is v-is =
+      new ! (of-opd ! (var ! refl)) refl (tt, record { fits = c-is .1 }) $ returns ! (look ! 0 refl) $
+      quits ! (has (vint w64 c) ∷ vs c ws) $
+      finishes 𝓤 H shape A (step-event.clauses 𝓤 H A mem run) κs qs tt a tt W ! c
+      (done .image, (done .lines, (tt, (tt, (tt, tt))))) c-is (n-is, (v-is, (refl, tt)))
       (turns-image-length v t n entry, (turns-lines-length v t n entry, (tt, (tt, (tt, tt)))))
-      (factI 𝓤 _ (emp 𝓤) refl)
+      (factI 𝓤 _ (emp 𝓤) (told, refl))
 
   walk : Walk 𝓤 H shape A W (step-event.clauses 𝓤 H A mem run) Ask 𝓣 code.function κs qs tt a tt
   walk are few =
@@ -92,6 +97,7 @@ module _ {M : Type 1} (𝓤 : URA M) (H : Heap 𝓤) (A : Atoms 𝓤) (W : Given
       let n-is : Is u64 n (vint w64 n ∷ []) = are .1 .1 .0 in
       let v-is : Is u8 v (vint w8 v ∷ []) = are .1 .1 .1 .0 in
       enters ! shape κs a 𝓣 code.function are refl (λ bs.
+      new ! (of-opd ! (lit ! tt)) refl (tt, record { fits = lit< tt }) $
       new ! (bin ! (var ! refl) (lit ! tt) tt) refl (tt, tt) $ ifs ! (var ! refl)
       -- a slot
       (λ Q on held.
@@ -104,14 +110,14 @@ module _ {M : Type 1} (𝓤 : URA M) (H : Heap 𝓤) (A : Atoms 𝓤) (W : Given
       (fullShare, (fullShare, tt)) tt
       (under x β im, (under x′ β′ ys, (n, (t, tt))))
       (val x ∷ [], (val x′ ∷ [], (vint w64 n ∷ [], (vbool t ∷ [], tt)))) tt (n-is, (refl, tt)) (factI 𝓤 _ (emp 𝓤) few)
-      (λ r us. busState (us .0) (us .1 .0) ≡ turns 1 t n entry) (λ r us. id⊢ 𝓤 _)
-      tt (done .image, (done .lines, (tt, (tt, tt))))
-      (λ r us e. (refl, both (e ∙ turns-slot v t n entry slot)))
-      (also ! refl (also ! refl (also ! refl (also ! refl (no-more !))))) (21 ∷ 18 ∷ 22 ∷ 19 ∷ []) refl (λ _ _.
+      (λ r us. (r ≡ copiedUpTo 1 t n entry) × (busState (us .0) (us .1 .0) ≡ turnsUpTo 1 t n entry)) (λ r us. id⊢ 𝓤 _)
+      cp (done .image, (done .lines, (tt, (tt, tt))))
+      (λ r us e. (e .0 ∙ copied-slot v t n entry slot, both (e .1 ∙ turns-slot v t n entry slot)))
+      (also ! refl (also ! refl (also ! refl (also ! refl (no-more !))))) (21 ∷ 18 ∷ 22 ∷ 19 ∷ []) refl (λ c-is _.
       move ! (20 ∷ 19 ∷ 22 ∷ []) $ backs ! tt u8 (κs .0) (qs .0) x (length im) refl room α β (done .image) $
       move ! (21 ∷ 20 ∷ 22 ∷ []) $ backs ! tt R (κs .1 .0) (qs .1 .0) x′ (length ys) refl room′ α′ β′ (done .lines) $
-      move ! (3 ∷ 1 ∷ 2 ∷ 0 ∷ []) $ lowers ! 4 18 $ ends-new ! refl (tt, tt) $ on _ (
-      leaves bs (has vunit ∷ has (ptr x) ∷ has (val x) ∷ has (ptr x′) ∷ has (val x′) ∷ []) n-is v-is)))))
+      move ! (3 ∷ 1 ∷ 2 ∷ 0 ∷ []) $ lowers ! 4 18 $ ends-renew ! refl (tt, record { fits = c-is .1 }) $ on _ (
+      leaves bs cp (has (ptr x) ∷ has (val x) ∷ has (ptr x′) ∷ has (val x′) ∷ []) c-is refl n-is v-is)))))
       -- another event
       (λ Q on failed.
       let other : 2 ≤ v = ltb-false v 2 (T-false (ltb v 2) failed) in
@@ -124,15 +130,15 @@ module _ {M : Type 1} (𝓤 : URA M) (H : Heap 𝓤) (A : Atoms 𝓤) (W : Given
       (under x β im, (under x′ β′ ys, (n, (v, tt))))
       (val x ∷ [], (val x′ ∷ [], (vint w64 n ∷ [], (vint w8 v ∷ [], tt)))) tt (n-is, (v-is, tt))
       (factI 𝓤 _ (emp 𝓤) (few, other))
-      (λ r us. busState (us .0) (us .1 .0) ≡ turns v true n entry) (λ r us. id⊢ 𝓤 _)
+      (λ r us. busState (us .0) (us .1 .0) ≡ turnsUpTo v true n entry) (λ r us. id⊢ 𝓤 _)
       tt (done .image, (done .lines, (tt, (tt, tt))))
       (λ r us e. (refl, both (e ∙ turns-other v t n entry other)))
       (also ! refl (also ! refl (also ! refl (also ! refl (no-more !))))) (21 ∷ 18 ∷ 22 ∷ 19 ∷ []) refl (λ _ _.
       move ! (20 ∷ 19 ∷ 22 ∷ []) $ backs ! tt u8 (κs .0) (qs .0) x (length im) refl room α β (done .image) $
       move ! (21 ∷ 20 ∷ 22 ∷ []) $ backs ! tt R (κs .1 .0) (qs .1 .0) x′ (length ys) refl room′ α′ β′ (done .lines) $
       move ! (3 ∷ 1 ∷ 2 ∷ 0 ∷ []) $ lowers ! 4 18 $ ends-new ! refl (tt, tt) $ on _ (
-      leaves bs (void ∷ void ∷ void ∷ void ∷ void ∷ has vunit ∷ has (ptr x) ∷ has (val x) ∷ has (ptr x′)
-      ∷ has (val x′) ∷ []) n-is v-is))))))
+      leaves bs 0 (void ∷ void ∷ void ∷ void ∷ has vunit ∷ has (ptr x) ∷ has (val x) ∷ has (ptr x′)
+      ∷ has (val x′) ∷ []) (refl, lit< tt) (sym (copied-other v t n entry other)) n-is v-is))))))
 
 pub step-event-spec : {M : Type 1} → stated.statement M
 unfolding code.routine tablesOf

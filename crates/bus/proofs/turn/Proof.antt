@@ -4,7 +4,7 @@ use mathlib.Core.Path.{refl}
 use native.Mathlib.Omega.{arith}
 use borrow.Author.Needs.{needs}
 use borrow.Rule.Slice.PartMut.{post-is}
-use Rattle.bus.specs.Loops.{deviceAt, deviceIn, withBody}
+use Rattle.bus.specs.Loops.{deviceAtPlace, deviceIn, imageWithBody}
 use Rattle.bus.proofs.Idle.{over-two, pulse-turn, reset-turn}
 use Rattle.bus.proofs.Laws.{inside-of}
 use Rattle.bus.proofs.turn.Statement.{statement}
@@ -26,7 +26,7 @@ part-reset-as-is-end c =
     omega arith
 
 returns : tie.Need-returns
-unfolding deviceIn deviceAt withBody
+unfolding deviceIn deviceAtPlace imageWithBody
 returns c =
     let a = c .before .before .before .before .before .before .before .before .args in
     let e = c .before .before .before .before .if1 .taken in
@@ -54,7 +54,7 @@ part-pulse-as-is-end c =
     omega arith
 
 returns-2 : tie.Need-returns-2
-unfolding deviceIn deviceAt withBody
+unfolding deviceIn deviceAtPlace imageWithBody
 returns-2 c =
     let s = c .before .before .before .before .before .before .before .before in
     let a = s .args in

@@ -2,7 +2,7 @@
 -- line state.
 -- The lines' borrow is opened once, before the loop, and closed once, after it. The image is held closed, and in each
 -- turn it is lent again for a lifetime of the call, and comes back.
--- The state after i turns is `turns v true i` of the state on entry (`specs/Loops.antt`), by recursion on i, so the
+-- The state after i turns is `turnsUpTo v true i` of the state on entry (`specs/Loops.antt`), by recursion on i, so the
 -- invariant holds at i + 1 by computation.
 -- All that it knows of `turn` is that it meets its contract.
 -- Assumes nothing. `Walk.antt` of `walks` says how a walk is written.
@@ -17,7 +17,7 @@ use Rattle.walks.proofs.Walk.{opens-mut, closes-mut, also, lends, backs, sees, 
 use mathlib.Core.Bool.{true}
 use Rattle.device.specs.declared.LineState.{LineState}
 use Rattle.device.specs.Device.{waitingState}
-use Rattle.bus.specs.Loops.{turnState, lineAt, BusState, busState, turns, turnAt}
+use Rattle.bus.specs.Loops.{turnState, lineAt, BusState, busState, turnsUpTo, turnAt}
 use Rattle.bus.proofs.Laws.{turns-image-length, turns-lines-length}
 use Rattle.bus.proofs.Lines.{width, fits-at, fits-next, R, mach, typed, line}
 use Rattle.bus.proofs.Shapes.{turn-all-shape as shape, turn-shape}
@@ -55,7 +55,7 @@ module _ {M : Type 1} (𝓤 : URA M) (H : Heap 𝓤) (A : Atoms 𝓤) (W : Given
   entry = busState (x .now) ys
 
   abbrev st : ℕ → BusState
-  st i = turns v true i entry
+  st i = turnsUpTo v true i entry
 
   abbrev l : ℕ → LineState
   l i = lineAt (st i .lines) i
@@ -74,7 +74,7 @@ module _ {M : Type 1} (𝓤 : URA M) (H : Heap 𝓤) (A : Atoms 𝓤) (W : Given
 
   walk : Walk 𝓤 H shape A W (turn-all.clauses 𝓤 H A mem run) Ask 𝓣 code.function κs qs tt (x, (x′, (n, (v, tt))))
       tt
-  unfolding turns turnAt
+  unfolding turnsUpTo turnAt
   walk are asked =
       let room : Room u8 m = are .0 .0 .1 in
       let room′ : Room R (length ys) = are .1 .0 .0 .1 in

@@ -9,7 +9,7 @@ use Rattle.walks.proofs.Walk.{returns, Is, u64, RefT, Room, cited, has, env, qu
 use Rattle.walks.proofs.Walk.{proved, count, new, under, ptr, val, again, lands-new, also, lends, backs}
 use Rattle.device.specs.declared.LineState.{LineState}
 use Rattle.device.specs.Device.{waitingState}
-use Rattle.bus.specs.Loops.{fewerOf, filled}
+use Rattle.bus.specs.Loops.{fewerOf, filledUpTo}
 use Rattle.bus.proofs.Laws.{filled-length, fewer-second}
 use Rattle.bus.proofs.Lines.{R, mach, typed}
 use Rattle.bus.proofs.Shapes.{wait-all-shape as shape, fewer-shape, waiting-shape, fill-shape}
@@ -45,7 +45,7 @@ module _ {M : Type 1} (𝓤 : URA M) (H : Heap 𝓤) (A : Atoms 𝓤) (W : Given
   n = fewerOf c (length ys)
 
   abbrev us : List LineState
-  us = filled n waitingState ys
+  us = filledUpTo n waitingState ys
 
   walk : Walk 𝓤 H shape A W (wait-all.clauses 𝓤 H A mem run) (λ κs a. Unit {0}) 𝓣 code.function κs qs tt (x, (c, tt)) tt
   walk are _ =

@@ -2,7 +2,7 @@ use Rattle.image.specs.Image.{countOf}
 use Prim.Native.Nat.{ℕ}
 use mathlib.Core.Bool.{Bool, true}
 use mathlib.Core.Path.{sym, ap, _∙_}
-use Rattle.image.specs.Refusal.{malformed}
+use Rattle.image.specs.Refusal.{imageMalformed}
 use borrow.Author.Needs.{needs}
 use mathlib.Core.Path.{refl}
 use native.Mathlib.Omega.{arith}
@@ -21,7 +21,7 @@ abbrev μ-loop : tie.MeasureT-loop
 μ-loop image n i₀ i = n - i
 
 loop-holds : tie.Need-loop-holds Inv-loop μ-loop
-unfolding someBelow entryMalformed malformed
+unfolding someBelow entryMalformed imageMalformed
 loop-holds c = (omega arith, refl)
 
 returns : tie.Need-returns Inv-loop μ-loop

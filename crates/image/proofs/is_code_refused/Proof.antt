@@ -1,7 +1,7 @@
 use Rattle.image.proofs.Laws.{short-code, code-byte}
 use Rattle.image.specs.Image.{codeAt, offsetAt}
 use Rattle.kind.specs.Kind.{codeLength}
-use Rattle.bits.specs.Crc.{registered}
+use Rattle.bits.specs.Crc.{registrationCheck}
 use lib.ListN.{take, drop}
 use native.Mathlib.Nat.{add-zero}
 use Prim.Native.Nat.{_+_, _-_}
@@ -19,7 +19,7 @@ unfolding codeRefused
 returns c =
     let image = c .before .before .before .args .image .now in
     let i = c .before .before .before .args .i in
-    let short : registered (codeAt image i) ≡ false = short-code image (offsetAt image i) (omega (arith, c .before .offset-at .ensures)) in
+    let short : registrationCheck (codeAt image i) ≡ false = short-code image (offsetAt image i) (omega (arith, c .before .offset-at .ensures)) in
     simp short
 
 returns-2 : tie.Need-returns-2
@@ -29,9 +29,9 @@ returns-2 c =
     let i = c .before .before .before .before .before .before .before .before .args .i in
     let start = c .before .before .before .before .before .before .offset-at .result in
     let eight : codeLength ≡ start + codeLength - start = omega arith in
-    let code : registered (codeAt image i) ≡ true =
-    ap (λ (s : ℕ). registered (take codeLength (drop s image))) (sym (c .before .before .before .before .before .before .offset-at .ensures))
-    ∙ ap (λ (n : ℕ). registered (take n (drop start image))) eight
+    let code : registrationCheck (codeAt image i) ≡ true =
+    ap (λ (s : ℕ). registrationCheck (take codeLength (drop s image))) (sym (c .before .before .before .before .before .before .offset-at .ensures))
+    ∙ ap (λ (n : ℕ). registrationCheck (take n (drop start image))) eight
     ∙ sym (c .before .before .before .registration-check .ensures)
     ∙ c .before .before .if2 .taken in
     simp (code, code-byte image (offsetAt image i) 0 (omega arith), c .family-at .ensures, ← c .before .before .before .before .before .before .offset-at .ensures, add-zero)
@@ -43,9 +43,9 @@ returns-3 c =
     let i = c .before .before .before .before .before .before .args .i in
     let start = c .before .before .before .before .offset-at .result in
     let eight : codeLength ≡ start + codeLength - start = omega arith in
-    let code : registered (codeAt image i) ≡ false =
-    ap (λ (s : ℕ). registered (take codeLength (drop s image))) (sym (c .before .before .before .before .offset-at .ensures))
-    ∙ ap (λ (n : ℕ). registered (take n (drop start image))) eight
+    let code : registrationCheck (codeAt image i) ≡ false =
+    ap (λ (s : ℕ). registrationCheck (take codeLength (drop s image))) (sym (c .before .before .before .before .offset-at .ensures))
+    ∙ ap (λ (n : ℕ). registrationCheck (take n (drop start image))) eight
     ∙ sym (c .before .registration-check .ensures)
     ∙ c .if2 .left in
     simp code

@@ -2,8 +2,8 @@ use Rattle.image.specs.Image.{countOf}
 use Prim.Native.Nat.{ℕ}
 use mathlib.Core.Bool.{Bool, true}
 use mathlib.Core.Path.{sym, ap, _∙_}
-use Rattle.bits.specs.Crc.{registered}
-use Rattle.image.specs.Refusal.{miscoded}
+use Rattle.bits.specs.Crc.{registrationCheck}
+use Rattle.image.specs.Refusal.{someCodeRefused}
 use borrow.Author.Needs.{needs}
 use mathlib.Core.Path.{refl}
 use native.Mathlib.Omega.{arith}
@@ -22,11 +22,11 @@ abbrev μ-loop : tie.MeasureT-loop
 μ-loop image n i₀ i = n - i
 
 loop-holds : tie.Need-loop-holds Inv-loop μ-loop
-unfolding miscoded someBelow codeRefused registered
+unfolding someCodeRefused someBelow codeRefused registrationCheck
 loop-holds c = (omega arith, refl)
 
 returns : tie.Need-returns Inv-loop μ-loop
-unfolding miscoded
+unfolding someCodeRefused
 returns c = sym (some-at _ _ (c .before .before .before .loop .i) (omega arith) (sym (c .before .is-code-refused .ensures) ∙ c .if1 .taken))
 
 loop-again : tie.Need-loop-again Inv-loop μ-loop
@@ -36,7 +36,7 @@ loop-again c =
     (omega arith, some-more (λ k. codeRefused image k) (l .i) (l .inv .1) (sym (c .before .is-code-refused .ensures) ∙ c .if1 .left))
 
 returns-2 : tie.Need-returns-2 Inv-loop μ-loop
-unfolding miscoded
+unfolding someCodeRefused
 returns-2 c =
     let image = c .before .before .before .before .args .image .now in
     let l = c .before .loop in

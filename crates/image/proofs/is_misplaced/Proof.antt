@@ -1,5 +1,5 @@
 use Rattle.image.proofs.Laws.{size-bound, packed-next}
-use Rattle.image.specs.Image.{countOf, familyAt}
+use Rattle.image.specs.Image.{countOf, familyAt, flatAt}
 use lib.ListN.{length}
 use Prim.Native.Nat.{_≤_}
 use borrow.Author.Tests.{eq-eqb, ne-eqb}
@@ -7,7 +7,7 @@ use mathlib.Core.Bool.{_||_}
 use Prim.Native.Nat.{ℕ}
 use mathlib.Core.Bool.{Bool, true}
 use mathlib.Core.Path.{sym, ap, _∙_}
-use Rattle.image.specs.Refusal.{misplaced}
+use Rattle.image.specs.Refusal.{bodyMisplaced}
 use Rattle.kind.specs.Kind.{bodySize}
 use borrow.Author.Needs.{needs}
 use mathlib.Core.Path.{refl}
@@ -29,11 +29,11 @@ abbrev μ-loop : tie.MeasureT-loop
 μ-loop image n at₀ i₀ at i = n - i
 
 loop-holds : tie.Need-loop-holds Inv-loop μ-loop
-unfolding misplaced packedAt someBelow bodySize
+unfolding bodyMisplaced packedAt someBelow bodySize
 loop-holds c = (omega arith, omega arith, refl)
 
 returns : tie.Need-returns Inv-loop μ-loop
-unfolding misplaced
+unfolding bodyMisplaced
 returns c =
     let image = c .before .before .before .before .before .before .before .args .image .now in
     let l = c .before .before .before .loop in
@@ -44,7 +44,7 @@ add-at-2 : tie.Need-add-at-2 Inv-loop μ-loop
 add-at-2 c =
     let image = c .before .before .before .before .before .before .before .before .before .args .image .now in
     let l = c .before .before .before .before .before .loop in
-    omega (arith, packed-bound image (l .i), size-bound (familyAt image (l .i)), ap bodySize (c .before .kind-at .ensures))
+    omega (arith, packed-bound image (l .i), size-bound (familyAt image (l .i)) (flatAt image (l .i)), ap bodySize (c .before .kind-at .ensures))
 
 loop-again : tie.Need-loop-again Inv-loop μ-loop
 loop-again c =
@@ -57,7 +57,7 @@ loop-again c =
     )
 
 returns-2 : tie.Need-returns-2 Inv-loop μ-loop
-unfolding misplaced
+unfolding bodyMisplaced
 returns-2 c =
     let image = c .before .before .before .before .before .args .image .now in
     let l = c .before .loop in

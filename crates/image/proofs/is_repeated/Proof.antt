@@ -5,7 +5,7 @@ use mathlib.Core.Bool.{Bool, true, false, not}
 use native.Mathlib.Omega.{arith}
 use mathlib.Core.Path.{_≡_, sym, ap, _∙_}
 use Rattle.image.proofs.Laws.{some-at, some-more}
-use Rattle.image.specs.Refusal.{someBelow, equalBytes, repeated}
+use Rattle.image.specs.Refusal.{someBelow, equalBytes, codeRepeated}
 use Rattle.image.specs.Image.{codeAt}
 use Prim.Native.Nat.{_≤_, _-_}
 use mathlib.Core.Bool.{false}
@@ -20,11 +20,11 @@ abbrev μ-loop : tie.MeasureT-loop
 μ-loop image j i₀ i = j - i
 
 loop-holds : tie.Need-loop-holds Inv-loop μ-loop
-unfolding repeated someBelow equalBytes
+unfolding codeRepeated someBelow equalBytes
 loop-holds c = (omega arith, refl)
 
 returns : tie.Need-returns Inv-loop μ-loop
-unfolding repeated
+unfolding codeRepeated
 returns c = sym (some-at _ _ (c .before .before .before .loop .i) (omega arith) (sym (c .before .same-code .ensures) ∙ c .if1 .taken))
 
 loop-again : tie.Need-loop-again Inv-loop μ-loop
@@ -35,7 +35,7 @@ loop-again c =
     (omega arith, some-more (λ k. equalBytes 8 (codeAt image k) (codeAt image j)) (l .i) (l .inv .1) (sym (c .before .same-code .ensures) ∙ c .if1 .left))
 
 returns-2 : tie.Need-returns-2 Inv-loop μ-loop
-unfolding repeated
+unfolding codeRepeated
 returns-2 c =
     let l = c .before .loop in
     let all : l .i ≡ c .before .before .before .args .j = omega arith in

@@ -1,19 +1,19 @@
-use Rattle.master.specs.Master.{afterPass}
+use Rattle.master.specs.Master.{stageAfterPass}
 use borrow.Author.Tests.{le-ltb, lt-ltb}
 use borrow.Author.Needs.{needs}
 use Rattle.master.proofs.after_pass.Statement.{statement}
 use Rattle.master.proofs.after_pass.Tie as tie
 
 returns : tie.Need-returns
-unfolding afterPass
+unfolding stageAfterPass
 returns c = simp (c .enum-told .given .1)
 
 returns-2 : tie.Need-returns-2
-unfolding afterPass
+unfolding stageAfterPass
 returns-2 c = simp (lt-ltb _ _ (c .if1 .taken), c .before .enum-told2 .given .1)
 
 returns-3 : tie.Need-returns-3
-unfolding afterPass
+unfolding stageAfterPass
 returns-3 c = simp (le-ltb _ _ (c .if1 .left), c .before .enum-told2 .given .1)
 
 pub after-pass-spec : {M : Type 1} → statement M

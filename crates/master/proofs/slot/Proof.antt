@@ -1,13 +1,13 @@
-use Rattle.master.specs.Master.{slot}
+use Rattle.master.specs.Master.{slotEvent}
 use Rattle.master.proofs.slot.Statement.{statement}
 use Rattle.master.proofs.slot.Tie as tie
 
 returns : tie.Need-returns
-unfolding slot
+unfolding slotEvent
 returns c = simp (c .if1 .taken)
 
 returns-2 : tie.Need-returns-2
-unfolding slot
+unfolding slotEvent
 returns-2 c = simp (c .if1 .left)
 
 pub slot-spec : {M : Type 1} → statement M

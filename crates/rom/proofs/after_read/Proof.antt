@@ -10,7 +10,7 @@ returns c = simp (c .read-byte .ensures, lt-ltb _ _ (c .before .if1 .taken))
 
 returns-2 : tie.Need-returns-2
 unfolding afterRead
-returns-2 c = simp (c .at-memory-command .ensures, le-ltb _ _ (c .before .if1 .left))
+returns-2 c = simp (c .addressed .ensures, le-ltb _ _ (c .before .if1 .left))
 
 pub after-read-spec : {M : Type 1} → statement M
 after-read-spec =

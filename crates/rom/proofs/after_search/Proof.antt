@@ -10,7 +10,7 @@ returns c = simp (c .search-bit .ensures, lt-ltb _ _ (c .before .if2 .taken), c 
 
 returns-2 : tie.Need-returns-2
 unfolding afterSearch
-returns-2 c = simp (c .at-memory-command .ensures, le-ltb _ _ (c .before .if2 .left), c .before .before .if1 .taken)
+returns-2 c = simp (c .addressed .ensures, le-ltb _ _ (c .before .if2 .left), c .before .before .if1 .taken)
 
 returns-3 : tie.Need-returns-3
 unfolding afterSearch

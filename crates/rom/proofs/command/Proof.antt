@@ -18,7 +18,7 @@ returns-3 c = simp (c .search-bit .ensures, c .before .match .keys3)
 
 returns-4 : tie.Need-returns-4
 unfolding romCommand
-returns-4 c = simp (c .at-memory-command .ensures, c .before .match .keys4)
+returns-4 c = simp (c .addressed .ensures, c .before .match .keys4)
 
 returns-5 : tie.Need-returns-5
 unfolding romCommand

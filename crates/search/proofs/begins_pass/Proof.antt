@@ -1,4 +1,4 @@
-use Rattle.discovery.specs.Words.{isReset, isSlot}
+use Rattle.search_laws.specs.Words.{isReset, isSlot}
 use borrow.Author.Tests.{eq-eqb, ne-eqb}
 use Rattle.search.proofs.begins_pass.Statement.{statement}
 use Rattle.search.proofs.begins_pass.Tie as tie

@@ -1,4 +1,4 @@
-use Rattle.search.specs.Exchange.{eventIn}
+use Rattle.search.specs.Loops.{eventIn}
 use borrow.Author.Needs.{needs}
 use Rattle.search.proofs.event_in.Statement.{statement}
 use Rattle.search.proofs.event_in.Tie as tie

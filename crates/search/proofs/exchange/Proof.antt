@@ -14,21 +14,20 @@ use Rattle.walks.proofs.Walk.{Atoms, Given, Item, ‵, _$_, Sq, Post, post, pro
 use Rattle.walks.proofs.Walk.{leaves-loop, look, forget, lit, of-opd, no-more, returns, Is, u8, RefT, ShrSlice}
 use Rattle.walks.proofs.Walk.{MutSlice, Room, cited, Cell, void, has, Blocks, env, stand, quits, lowers, Walk, Met}
 use Rattle.walks.proofs.Walk.{enters, asks, finishes, proved, var, new, renew, bump, to, under, val, again, lands-new}
-use Rattle.walks.proofs.Walk.{also, lends, backs, lands-renew, shares-on, shares-back}
+use Rattle.walks.proofs.Walk.{also, lends, backs, lands-renew}
 use types.Run.{branches, true-lit}
 use mathlib.Core.Bool.{not}
 use lib.Dec.{T}
 use Rattle.walks.proofs.Vars.{holds}
 use Rattle.device.specs.declared.LineState.{LineState}
 use Rattle.master.specs.declared.Master.{Master}
-use Rattle.master.specs.Master.{fresh, stepOf}
+use Rattle.master.specs.Master.{freshMaster, stepOf}
 use Rattle.image.specs.Image.{countOf}
-use Rattle.bus.specs.Loops.{levelOn}
 use Rattle.bus.proofs.Lines.{fits-next, R}
-use Rattle.bus.proofs.Shapes.{device-count-shape, level-shape, step-all-shape}
-use Rattle.search.specs.Exchange.{hasEvent, eventIn, Ready}
+use Rattle.bus.proofs.Shapes.{device-count-shape}
+use Rattle.search.specs.Loops.{hasEvent, eventIn, Ready}
 use Rattle.search.proofs.Shapes.{master, step, exchange-shape as shape, fresh-shape, stepped-shape, next-shape}
-use Rattle.search.proofs.Shapes.{has-event-shape, event-in-shape, put-byte-shape, level-byte-shape}
+use Rattle.search.proofs.Shapes.{has-event-shape, event-in-shape, put-byte-shape, answered-shape}
 use Rattle.search.proofs.Loop.{State, state, exchanges, masterAt, levelAt, codesAt, lines-length, trace-length}
 use Rattle.search.proofs.Loop.{codes-length, held-length, step-is, codes-are, goes, ends, codes-done, trace-done}
 use Rattle.search.proofs.Loop.{lines-done, fits}
@@ -62,18 +61,10 @@ use Rattle.bus.proofs.device_count as device-count
 use Rattle.bus.proofs.device_count.Symbol as device-count-def
 use Rattle.bus.proofs.device_count.Symbol.{name as #bus·device-count}
 use Rattle.bus.proofs.device_count.Met as device-count-thm
-use Rattle.bus.proofs.level as level
-use Rattle.bus.proofs.level.Symbol as level-def
-use Rattle.bus.proofs.level.Symbol.{name as #bus·level}
-use Rattle.bus.proofs.level.Met as level-thm
-use Rattle.bus.proofs.step_all as step-all
-use Rattle.bus.proofs.step_all.Symbol as step-all-def
-use Rattle.bus.proofs.step_all.Symbol.{name as #bus·step-all}
-use Rattle.bus.proofs.step_all.Met as step-all-thm
-use Rattle.search.proofs.level_byte as level-byte
-use Rattle.search.proofs.level_byte.Symbol as level-byte-def
-use Rattle.search.proofs.level_byte.Symbol.{name as #search·level-byte}
-use Rattle.search.proofs.level_byte.Met as level-byte-thm
+use Rattle.search.proofs.answered as answered
+use Rattle.search.proofs.answered.Symbol as answered-def
+use Rattle.search.proofs.answered.Symbol.{name as #search·answered}
+use Rattle.search.proofs.answered.Met as answered-thm
 use Rattle.search.proofs.exchange.Key.{name as #search·exchange}
 use Rattle.search.proofs.exchange as exchange
 use Rattle.search.proofs.exchange.Statement as stated
@@ -99,9 +90,7 @@ module _ {M : Type 1} (𝓤 : URA M) (H : Heap 𝓤) (A : Atoms 𝓤) (W : Given
     (known-has-event : Met 𝓤 H A 𝓣 has-event-shape (has-event.clauses 𝓤 H A mem run) #search·has-event)
     (known-event-in : Met 𝓤 H A 𝓣 event-in-shape (event-in.clauses 𝓤 H A mem run) #search·event-in)
     (known-put-byte : Met 𝓤 H A 𝓣 put-byte-shape (put-byte.clauses 𝓤 H A mem run) #bits·put-byte)
-    (known-level : Met 𝓤 H A 𝓣 level-shape (level.clauses 𝓤 H A mem run) #bus·level)
-    (known-step-all : Met 𝓤 H A 𝓣 step-all-shape (step-all.clauses 𝓤 H A mem run) #bus·step-all)
-    (known-level-byte : Met 𝓤 H A 𝓣 level-byte-shape (level-byte.clauses 𝓤 H A mem run) #search·level-byte)
+    (known-answered : Met 𝓤 H A 𝓣 answered-shape (answered.clauses 𝓤 H A mem run) #search·answered)
     (κs : Lfts 4) (qs : Shares 4) (x x₁ x₂ : RefT (List ℕ)) (x₃ : RefT (List LineState)) where
   abbrev a : Arg
   a = (x, (x₁, (x₂, (x₃, tt))))
@@ -109,12 +98,12 @@ module _ {M : Type 1} (𝓤 : URA M) (H : Heap 𝓤) (A : Atoms 𝓤) (W : Given
   abbrev im : List ℕ
   im = x .now
 
-  -- how many devices there are, the state on entry and after k exchanges, whether it has an event, event k, and its level
+  -- how many devices there are, the state on entry and after k exchanges, whether it has an event, and event k
   abbrev c : ℕ
   c = countOf im
 
   abbrev entry : State
-  entry = state (stepOf fresh 0) (x₃ .now) (x₂ .now) (x₁ .now)
+  entry = state (stepOf freshMaster 0) (x₃ .now) (x₂ .now) (x₁ .now)
 
   abbrev st : ℕ → State
   st k = exchanges im k entry
@@ -124,9 +113,6 @@ module _ {M : Type 1} (𝓤 : URA M) (H : Heap 𝓤) (A : Atoms 𝓤) (W : Given
 
   abbrev v : ℕ → ℕ
   v k = eventIn (st k .step .answer)
-
-  abbrev lv : ℕ → Bool
-  lv k = levelOn (st k .lines) c (v k)
 
   -- what turn k starts with
   abbrev ma : ℕ → Master
@@ -173,14 +159,14 @@ module _ {M : Type 1} (𝓤 : URA M) (H : Heap 𝓤) (A : Atoms 𝓤) (W : Given
       enters ! shape κs a 𝓣 code.function are refl (λ bs.
       asks ! 𝓣 device-count-shape (device-count.clauses 𝓤 H A mem run) known-device-count (κs .0, tt) (qs .0, tt) tt
       (x, tt) (val x ∷ [], tt) tt tt (id⊢ 𝓤 _)
-      (λ r zs. r ≡ c) (λ r zs. id⊢ 𝓤 _) c (tt, tt) (λ r zs e. (e, refl)) (also ! refl (no-more !)) (24 ∷ 28 ∷ []) refl
+      (λ r zs. r ≡ c) (λ r zs. id⊢ 𝓤 _) c (tt, tt) (λ r zs e. (e, refl)) (also ! refl (no-more !)) (21 ∷ 25 ∷ []) refl
       (λ c-is _. lands-new ! refl (tt, record { fits = c-is .1 }) $
-      move ! (30 ∷ 24 ∷ 25 ∷ 26 ∷ 31 ∷ 27 ∷ 28 ∷ 29 ∷ []) $ lowers ! 8 24 $
+      move ! (27 ∷ 21 ∷ 22 ∷ 23 ∷ 28 ∷ 24 ∷ 25 ∷ 26 ∷ []) $ lowers ! 8 21 $
       asks ! 𝓣 fresh-shape (fresh-fn.clauses 𝓤 H A mem run) known-fresh tt tt tt
       tt tt tt tt (id⊢ 𝓤 _)
-      (λ r zs. r ≡ fresh) (λ r zs. id⊢ 𝓤 _) fresh tt
+      (λ r zs. r ≡ freshMaster) (λ r zs. id⊢ 𝓤 _) freshMaster tt
       (λ r zs e. (e, refl)) (no-more !) [] refl
-      (λ is₀ _. lands-new ! refl (master .typed 𝓤 H A W fresh is₀) $
+      (λ is₀ _. lands-new ! refl (master .typed 𝓤 H A W freshMaster is₀) $
       new ! (of-opd ! (lit ! tt)) refl (tt, record { fits = lit< tt }) $
       new ! (of-opd ! (lit ! tt)) refl (tt, record { fits = lit< tt }) $
       new ! (of-opd ! (true-lit !)) refl (tt, tt) $
@@ -193,8 +179,8 @@ module _ {M : Type 1} (𝓤 : URA M) (H : Heap 𝓤) (A : Atoms 𝓤) (W : Given
       let k-fits : k < 2 ^ 64 = omega (arith, few, n-fits) in
       new ! (of-opd ! (var ! refl)) refl (tt, tt) $ stays ! (var ! refl) $
       again ! refl refl refl refl tt (refl, refl, refl) tt (room₁ .0) $
-      move ! (29 ∷ 25 ∷ []) $ lends ! tt u8 (κs .1 .0) (qs .1 .0) (to x₁ (co k)) (length (x₁ .now)) len₁
-      (λ α β. lowers ! 3 24 $
+      move ! (26 ∷ 22 ∷ []) $ lends ! tt u8 (κs .1 .0) (qs .1 .0) (to x₁ (co k)) (length (x₁ .now)) len₁
+      (λ α β. lowers ! 3 21 $
       asks ! 𝓣 stepped-shape (stepped.clauses 𝓤 H A mem run) known-stepped (α ∷ [], tt) (fullShare, tt) tt
       (under x₁ β (co k), (ma k, (le k, tt))) (val x₁ ∷ [], (master .mach (ma k) ∷ [], (vint w8 (le k) ∷ [], tt))) tt
       (shown .0, ((refl, shown .1), tt)) (id⊢ 𝓤 _)
@@ -204,11 +190,11 @@ module _ {M : Type 1} (𝓤 : URA M) (H : Heap 𝓤) (A : Atoms 𝓤) (W : Given
         e .0 ∙ step-is im entry refl k,
         ap (λ (z : List ℕ). (z, (tt, (tt, tt)))) (e .1 ∙ codes-are im entry k),
       ))
-      (also ! refl (also ! refl (also ! refl (no-more !)))) (24 ∷ 25 ∷ []) refl
+      (also ! refl (also ! refl (also ! refl (no-more !)))) (21 ∷ 22 ∷ []) refl
       (λ is _. lands-new ! refl (step .typed 𝓤 H A W (st k .step) is) $
-      move ! (31 ∷ 24 ∷ 32 ∷ []) $ backs ! tt u8 (κs .1 .0) (qs .1 .0) (to x₁ (co k)) (length (x₁ .now)) len₁
+      move ! (28 ∷ 21 ∷ 29 ∷ []) $ backs ! tt u8 (κs .1 .0) (qs .1 .0) (to x₁ (co k)) (length (x₁ .now)) len₁
       room₁ α β (st k .codes) $
-      move ! (26 ∷ 1 ∷ 27 ∷ 28 ∷ 29 ∷ 0 ∷ 30 ∷ 31 ∷ []) $ lowers ! 8 24 $
+      move ! (23 ∷ 1 ∷ 24 ∷ 25 ∷ 26 ∷ 0 ∷ 27 ∷ 28 ∷ []) $ lowers ! 8 21 $
       asks ! 𝓣 next-shape (next-fn.clauses 𝓤 H A mem run) known-next tt tt tt
       (st k .step, tt) (step .mach (st k .step) ∷ [], tt) tt (is, tt) (id⊢ 𝓤 _)
       (λ r zs. r ≡ ma (suc k)) (λ r zs. id⊢ 𝓤 _) (ma (suc k)) (tt, tt)
@@ -220,7 +206,7 @@ module _ {M : Type 1} (𝓤 : URA M) (H : Heap 𝓤) (A : Atoms 𝓤) (W : Given
       (λ r zs e. (e, refl)) (also ! refl (no-more !)) [] refl
       (λ _ _. lands-renew ! refl (tt, tt) $
       renew ! (of-opd ! (var ! refl)) refl (tt, tt) $ branches ! (var ! refl)
-      -- it has an event, which is written. Its level is asked, and the devices step
+      -- it has an event, which is written, and the devices answer it
       (λ held.
       let small : k < n = goes im (x₁ .now) (x₂ .now) (x₃ .now) ready k few (holds (more k) held) in
       let next-fits : k + 1 < 2 ^ 64 = fits-next k n n-fits small in
@@ -230,64 +216,45 @@ module _ {M : Type 1} (𝓤 : URA M) (H : Heap 𝓤) (A : Atoms 𝓤) (W : Given
       (λ r zs e. (e, refl)) (also ! refl (no-more !)) [] refl
       (λ v-is _. lands-new ! refl (tt, record { fits = v-is .1 }) $
       again ! refl refl refl refl tt (refl, refl, refl) tt (room₂ .0) $
-      move ! (30 ∷ 26 ∷ []) $ lends ! tt u8 (κs .1 .1 .0) (qs .1 .1 .0) (to x₂ (st k .trace)) (length (x₂ .now)) len₂
-      (λ α′ β′. lowers ! 3 24 $
+      move ! (27 ∷ 23 ∷ []) $ lends ! tt u8 (κs .1 .1 .0) (qs .1 .1 .0) (to x₂ (st k .trace)) (length (x₂ .now)) len₂
+      (λ α′ β′. lowers ! 3 21 $
       asks ! 𝓣 put-byte-shape (put-byte.clauses 𝓤 H A mem run) known-put-byte (α′ ∷ [], tt) (fullShare, tt) tt
       (under x₂ β′ (st k .trace), (k, (v k, tt))) (val x₂ ∷ [], (vint w64 k ∷ [], (vint w8 (v k) ∷ [], tt))) tt
       ((refl, k-fits), (v-is, tt)) (id⊢ 𝓤 _)
       (λ r zs. zs .0 ≡ st (suc k) .trace) (λ r zs. id⊢ 𝓤 _) tt (st (suc k) .trace, (tt, (tt, tt)))
       (λ r zs e. (refl, ap (λ (z : List ℕ). (z, (tt, (tt, tt)))) e))
-      (also ! refl (also ! refl (also ! refl (no-more !)))) (24 ∷ 25 ∷ []) refl
+      (also ! refl (also ! refl (also ! refl (no-more !)))) (21 ∷ 22 ∷ []) refl
       (λ _ _. lands-new ! refl (tt, tt) $
-      move ! (31 ∷ 24 ∷ 32 ∷ []) $ backs ! tt u8 (κs .1 .1 .0) (qs .1 .1 .0) (to x₂ (st k .trace)) (length (x₂ .now))
+      move ! (28 ∷ 21 ∷ 29 ∷ []) $ backs ! tt u8 (κs .1 .1 .0) (qs .1 .1 .0) (to x₂ (st k .trace)) (length (x₂ .now))
       len₂ room₂ α′ β′ (st (suc k) .trace) $
-      move ! (26 ∷ 27 ∷ 1 ∷ 28 ∷ 29 ∷ 30 ∷ 0 ∷ 31 ∷ []) $ lowers ! 8 24 $
-      -- `level`: the lines are lent to it as `&`
+      move ! (23 ∷ 24 ∷ 1 ∷ 25 ∷ 26 ∷ 27 ∷ 0 ∷ 28 ∷ []) $ lowers ! 8 21 $
+      -- `answered`: the lines are lent to it
       again ! refl refl refl refl tt (refl, refl, refl) tt (room₃ .0) $
-      move ! (31 ∷ 27 ∷ []) $ shares-on ! tt R (κs .1 .1 .1 .0) (qs .1 .1 .1 .0) (to x₃ (st k .lines))
-      (length (x₃ .now)) len₃ (λ ν δ. lowers ! 3 24 $
-      asks ! 𝓣 level-shape (level.clauses 𝓤 H A mem run) known-level (ν ∷ [], tt) (fullShare, tt) tt
-      (under x₃ δ (st k .lines), (c, (v k, tt))) (val x₃ ∷ [], (vint w64 c ∷ [], (vint w8 (v k) ∷ [], tt))) tt
-      (c-is, (v-is, tt)) (id⊢ 𝓤 _)
-      (λ r zs. r ≡ lv k) (λ r zs. id⊢ 𝓤 _) (lv k) (tt, (tt, (tt, tt)))
-      (λ r zs e. (e, refl)) (also ! refl (also ! refl (also ! refl (no-more !)))) (24 ∷ 25 ∷ []) refl
-      (λ _ _. lands-new ! refl (tt, tt) $
-      move ! (31 ∷ 24 ∷ []) $ shares-back ! tt R (κs .1 .1 .1 .0) (qs .1 .1 .1 .0) (to x₃ (st k .lines))
-      (length (x₃ .now)) len₃ room₃ ν $
-      move ! (26 ∷ 27 ∷ 28 ∷ 1 ∷ 29 ∷ 30 ∷ 31 ∷ 0 ∷ []) $ lowers ! 8 24 $ move ! (32 ∷ []) $ drop ! $
-      -- `step_all`: the lines are lent to it
-      again ! refl refl refl refl tt (refl, refl, refl) tt (room₃ .0) $
-      move ! (31 ∷ 27 ∷ []) $ lends ! tt R (κs .1 .1 .1 .0) (qs .1 .1 .1 .0) (to x₃ (st k .lines)) (length (x₃ .now))
-      len₃ (λ μ ε. lowers ! 3 24 $
-      asks ! 𝓣 step-all-shape (step-all.clauses 𝓤 H A mem run) known-step-all (κs .0, (μ ∷ [], tt))
+      move ! (28 ∷ 24 ∷ []) $ lends ! tt R (κs .1 .1 .1 .0) (qs .1 .1 .1 .0) (to x₃ (st k .lines)) (length (x₃ .now))
+      len₃ (λ μ ε. lowers ! 3 21 $
+      asks ! 𝓣 answered-shape (answered.clauses 𝓤 H A mem run) known-answered (κs .0, (μ ∷ [], tt))
       (qs .0, (fullShare, tt)) tt
-      (x, (under x₃ ε (st k .lines), (c, (v k, (lv k, tt)))))
-      (val x ∷ [], (val x₃ ∷ [], (vint w64 c ∷ [], (vint w8 (v k) ∷ [], (vbool (lv k) ∷ [], tt))))) tt
-      (c-is, (v-is, (refl, tt))) (id⊢ 𝓤 _)
-      (λ r zs. zs .1 .0 ≡ st (suc k) .lines) (λ r zs. id⊢ 𝓤 _) tt (tt, (st (suc k) .lines, (tt, (tt, (tt, tt)))))
-      (λ r zs e. (refl, ap (λ (z : List LineState). (tt, (z, (tt, (tt, (tt, tt)))))) e))
-      (also ! refl (also ! refl (also ! refl (also ! refl (also ! refl (no-more !)))))) (27 ∷ 24 ∷ 30 ∷ 25 ∷ []) refl
-      (λ _ _. lands-renew ! refl (tt, tt) $
-      move ! (30 ∷ 24 ∷ 32 ∷ []) $ backs ! tt R (κs .1 .1 .1 .0) (qs .1 .1 .1 .0) (to x₃ (st k .lines))
-      (length (x₃ .now)) len₃ room₃ μ ε (st (suc k) .lines) $
-      move ! (30 ∷ 26 ∷ 27 ∷ 1 ∷ 31 ∷ 28 ∷ 29 ∷ 0 ∷ []) $ lowers ! 8 24 $
-      asks ! 𝓣 level-byte-shape (level-byte.clauses 𝓤 H A mem run) known-level-byte tt tt tt
-      (lv k, tt) (vbool (lv k) ∷ [], tt) tt (refl, tt) (id⊢ 𝓤 _)
-      (λ r zs. r ≡ le (suc k)) (λ r zs. id⊢ 𝓤 _) (le (suc k)) (tt, tt)
-      (λ r zs e. (e, refl)) (also ! refl (no-more !)) [] refl
+      (x, (under x₃ ε (st k .lines), (c, (v k, tt))))
+      (val x ∷ [], (val x₃ ∷ [], (vint w64 c ∷ [], (vint w8 (v k) ∷ [], tt)))) tt (c-is, (v-is, tt)) (id⊢ 𝓤 _)
+      (λ r zs. (r ≡ le (suc k)) × (zs .1 .0 ≡ st (suc k) .lines)) (λ r zs. id⊢ 𝓤 _)
+      (le (suc k)) (tt, (st (suc k) .lines, (tt, (tt, tt))))
+      (λ r zs e. (e .0, ap (λ (z : List LineState). (tt, (z, (tt, (tt, tt))))) (e .1)))
+      (also ! refl (also ! refl (also ! refl (also ! refl (no-more !))))) (24 ∷ 21 ∷ 27 ∷ 22 ∷ []) refl
       (λ le-is _. lands-renew ! refl (tt, record { fits = le-is .1 }) $
+      move ! (27 ∷ 21 ∷ 29 ∷ []) $ backs ! tt R (κs .1 .1 .1 .0) (qs .1 .1 .1 .0) (to x₃ (st k .lines))
+      (length (x₃ .now)) len₃ room₃ μ ε (st (suc k) .lines) $
+      move ! (27 ∷ 23 ∷ 24 ∷ 1 ∷ 28 ∷ 25 ∷ 26 ∷ 0 ∷ []) $ lowers ! 8 21 $
       bump ! refl next-fits tt $ forget ! 10 refl $ forget ! 11 refl $ forget ! 12 refl $ forget ! 13 refl $
       forget ! 14 refl $ forget ! 15 refl $ forget ! 16 refl $ forget ! 17 refl $ forget ! 18 refl $ forget ! 19 refl $
-      forget ! 20 refl $ forget ! 21 refl $ forget ! 22 refl $
-      told bs (suc k) (suc k) Q (holds (more k) held) (on-to small (is′, le-is .1)))))))))))
+      told bs (suc k) (suc k) Q (holds (more k) held) (on-to small (is′, le-is .1))))))))
       -- it has ended
-      (λ failed. skips ! $ forget ! 10 refl $ forget ! 13 refl $ forget ! 14 refl $ forget ! 15 refl $
+      (λ failed. skips ! $ forget ! 10 refl $ forget ! 12 refl $ forget ! 13 refl $ forget ! 14 refl $
       told bs (suc k) k Q (left (more k) failed)
       (done (ends im (x₁ .now) (x₂ .now) (x₃ .now) ready k few (left (more k) failed)))))))))
       -- the loop is left, and the function returns
       (λ Q out. new ! (of-opd ! (var ! refl)) refl (tt, tt) $ leaves-loop ! (var ! refl) $ out _ (
       new ! (of-opd ! (var ! refl)) refl (tt, record { fits = n-fits }) $ returns ! (look ! 0 refl) $
-      quits ! (has (vint w64 n) ∷ vs false (suc n) n ++ void ∷ void ∷ void ∷ has (vbool false) ∷ []) $
+      quits ! (has (vint w64 n) ∷ vs false (suc n) n ++ void ∷ void ∷ has (vbool false) ∷ []) $
       finishes 𝓤 H shape A (exchange.clauses 𝓤 H A mem run) κs qs tt a tt W ! n
       (tt, (st n .codes, (st n .trace, (st n .lines, tt)))) (refl, n-fits)
       tt (tt, (codes-length im n entry, (trace-length im n entry, (lines-length im n entry, tt))))
@@ -316,8 +283,6 @@ exchange-spec 𝓤 H 𝓜 𝓖 𝓡 =
     (cited 𝓤 H _ 𝓜 𝓡 code.env #search·event-in event-in-def.routine code.calls-search·event-in
     (event-in-thm.met 𝓤 H 𝓜 𝓖 𝓡))
     (cited 𝓤 H _ 𝓜 𝓡 code.env #bits·put-byte put-byte-def.routine code.calls-bits·put-byte (put-byte-thm.met 𝓤 H 𝓜 𝓖 𝓡))
-    (cited 𝓤 H _ 𝓜 𝓡 code.env #bus·level level-def.routine code.calls-bus·level (level-thm.met 𝓤 H 𝓜 𝓖 𝓡))
-    (cited 𝓤 H _ 𝓜 𝓡 code.env #bus·step-all step-all-def.routine code.calls-bus·step-all (step-all-thm.met 𝓤 H 𝓜 𝓖 𝓡))
-    (cited 𝓤 H _ 𝓜 𝓡 code.env #search·level-byte level-byte-def.routine code.calls-search·level-byte
-    (level-byte-thm.met 𝓤 H 𝓜 𝓖 𝓡))
+    (cited 𝓤 H _ 𝓜 𝓡 code.env #search·answered answered-def.routine code.calls-search·answered
+    (answered-thm.met 𝓤 H 𝓜 𝓖 𝓡))
     κs qs (a .0) (a .1 .0) (a .1 .1 .0) (a .1 .1 .1 .0))

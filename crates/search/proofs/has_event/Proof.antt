@@ -1,4 +1,4 @@
-use Rattle.search.specs.Exchange.{hasEvent}
+use Rattle.search.specs.Loops.{hasEvent}
 use borrow.Author.Needs.{needs}
 use Rattle.search.proofs.has_event.Statement.{statement}
 use Rattle.search.proofs.has_event.Tie as tie

@@ -4,7 +4,7 @@ use mathlib.Core.Bool.{Bool, cond}
 use native.Mathlib.Omega.{arith}
 use lib.ListN.{length, drop}
 use borrow.Author.Needs.{needs}
-use Rattle.discovery.specs.Words.{passesIn}
+use Rattle.search_laws.specs.Words.{passesIn}
 use Rattle.search.proofs.Counts.{passes-next, passes-end}
 use Rattle.search.proofs.passes_in.Statement.{statement}
 use Rattle.search.proofs.passes_in.Tie as tie

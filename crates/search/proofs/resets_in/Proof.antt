@@ -4,7 +4,7 @@ use native.Mathlib.Omega.{arith}
 use lib.ListN.{length, drop}
 use lib.Seq.{drop-length}
 use borrow.Author.Needs.{needs}
-use Rattle.discovery.specs.Words.{resetsIn, isReset}
+use Rattle.search_laws.specs.Words.{resetsIn, isReset}
 use Rattle.search.proofs.Counts.{resets-next}
 use Rattle.search.proofs.resets_in.Statement.{statement}
 use Rattle.search.proofs.resets_in.Tie as tie

@@ -20,18 +20,18 @@ use lib.ListN as ListN
 use lib.ListN.{take}
 use Rattle.image.specs.Image.{countOf}
 use Rattle.device.specs.declared.LineState.{LineState}
-use Rattle.master.specs.Master.{fresh, stepOf}
-use Rattle.master.specs.Drive.{over}
+use Rattle.master.specs.Master.{freshMaster, stepOf}
+use Rattle.master.specs.Drive.{writtenOver}
 use Rattle.bus.specs.Run.{statesOf}
 use Rattle.bus.proofs.Lines.{R}
 use Rattle.bus.proofs.Shapes.{device-count-shape, wait-all-shape}
-use Rattle.discovery.specs.Search.{searchOf}
-use Rattle.discovery.specs.Searched.{Searched}
-use Rattle.discovery.specs.Words.{Bytes}
+use Rattle.search_laws.specs.Search.{searchOf}
+use Rattle.search_laws.specs.Searched.{Searched}
+use Rattle.search_laws.specs.Words.{Bytes}
 use Rattle.search.specs.declared.Found.{Found}
 use Rattle.search.specs.Refusal.{searchRefusal}
-use Rattle.search.specs.Found.{foundIn, searchOutcome, searchedOf}
-use Rattle.search.specs.Exchange.{Ready}
+use Rattle.search.specs.Found.{foundIn, searchOutcome, searchOutcomeOf}
+use Rattle.search.specs.Loops.{Ready}
 use Rattle.search.proofs.Loop.{State, state, codes-length, trace-length, lines-length, codes-done, trace-done}
 use Rattle.search.proofs.Loop.{lines-done, fits}
 use Rattle.search.proofs.Shapes.{found, search-shape as shape, refusal-shape, exchange-shape, tally-shape}
@@ -97,16 +97,16 @@ module _ {M : Type 1} (𝓤 : URA M) (H : Heap 𝓤) (A : Atoms 𝓤) (W : Given
   n = length (searchOf im .trace)
 
   abbrev cs⁺ : List ℕ
-  cs⁺ = over (searchOf im .codes) codes
+  cs⁺ = writtenOver (searchOf im .codes) codes
 
   abbrev tr⁺ : List ℕ
-  tr⁺ = over (searchOf im .trace) trace
+  tr⁺ = writtenOver (searchOf im .trace) trace
 
   abbrev ls⁺ : List LineState
   ls⁺ = statesOf (searchOf im .devices) ++ ListN.drop (countOf im) us
 
   abbrev start : State
-  start = state (stepOf fresh 0) us trace codes
+  start = state (stepOf freshMaster 0) us trace codes
 
   same : length us ≡ length ys
   same = begun-length im codes trace ys
@@ -134,7 +134,7 @@ module _ {M : Type 1} (𝓤 : URA M) (H : Heap 𝓤) (A : Atoms 𝓤) (W : Given
   -- the code behind the `if`: the trace is lent to `tally` as `&`
   tallies : Room u8 (length trace) → (bs : Blocks (code.function .locals)) (c : ℕ) (cs′ tr′ : List ℕ)
       (ls′ : List LineState) → Is u32 e (vint w32 e ∷ [])
-      → Is u64 c (vint w64 c ∷ []) → c ≤ length tr′ → searchOutcome (foundIn e (take c tr′)) cs′ tr′ ls′ ≡ searchedOf im
+      → Is u64 c (vint w64 c ∷ []) → c ≤ length tr′ → searchOutcome (foundIn e (take c tr′)) cs′ tr′ ls′ ≡ searchOutcomeOf im
       codes trace ys → (e ≡ 0 → Searched im (searchOf im))
       → length cs′ ≡ length codes → length tr′ ≡ length trace → length ls′ ≡ length ys
       → Sq W (Had bs c cs′ tr′ ls′) (runs (𝓣 .C) (𝓣 .Λ) (env 𝓤 H (code.function .locals) bs) mir.t-8
@@ -158,7 +158,7 @@ module _ {M : Type 1} (𝓤 : URA M) (H : Heap 𝓤) (A : Atoms 𝓤) (W : Given
       finishes 𝓤 H shape A (search′.clauses 𝓤 H A mem run) κs qs tt a tt W ! (foundIn e (take c tr′))
       (tt, (cs′, (tr′, (ls′, tt)))) is
       tt (tt, (len₁, (len₂, (len₃, tt))))
-      (factI 𝓤 _ (emp 𝓤) (leaves (searchedOf im codes trace ys) (foundIn e (take c tr′)) cs′ tr′ ls′ said, ok))))
+      (factI 𝓤 _ (emp 𝓤) (leaves (searchOutcomeOf im codes trace ys) (foundIn e (take c tr′)) cs′ tr′ ls′ said, ok))))
 
   walk : Walk 𝓤 H shape A W (search′.clauses 𝓤 H A mem run) (λ κs a. Unit {0}) 𝓣 code.function κs qs tt a tt
   walk are _ =

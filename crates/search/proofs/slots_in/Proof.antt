@@ -4,7 +4,7 @@ use native.Mathlib.Omega.{arith}
 use lib.ListN.{length, drop}
 use lib.Seq.{drop-length}
 use borrow.Author.Needs.{needs}
-use Rattle.discovery.specs.Words.{slotsIn, isSlot}
+use Rattle.search_laws.specs.Words.{slotsIn, isSlot}
 use Rattle.search.proofs.Counts.{slots-next}
 use Rattle.search.proofs.slots_in.Statement.{statement}
 use Rattle.search.proofs.slots_in.Tie as tie

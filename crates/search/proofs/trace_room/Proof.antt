@@ -2,7 +2,7 @@ use Prim.Native.Nat.{ℕ, zero, suc, _*_}
 use mathlib.Core.Path.{_≡_, refl, ap}
 use borrow.Author.Needs.{needs}
 use Rattle.master.specs.Drive.{passEvents}
-use Rattle.discovery.specs.Searched.{eventsFor}
+use Rattle.search_laws.specs.Searched.{eventsFor}
 use Rattle.search.proofs.trace_room.Statement.{statement}
 use Rattle.search.proofs.trace_room.Tie as tie
 

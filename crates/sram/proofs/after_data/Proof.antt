@@ -1,15 +1,15 @@
 use borrow.Author.Tests.{le-ltb, lt-ltb}
-use Rattle.sram.specs.Sram.{afterData}
+use Rattle.sram.specs.Sram.{afterDataBit}
 use borrow.Author.Needs.{needs}
 use Rattle.sram.proofs.after_data.Statement.{statement}
 use Rattle.sram.proofs.after_data.Tie as tie
 
 returns : tie.Need-returns
-unfolding afterData
+unfolding afterDataBit
 returns c = simp (c .write-data .ensures, le-ltb _ _ (c .before .if1 .taken))
 
 returns-2 : tie.Need-returns-2
-unfolding afterData
+unfolding afterDataBit
 returns-2 c =
     simp (
       c .write-data2 .ensures,
@@ -18,7 +18,7 @@ returns-2 c =
     )
 
 returns-3 : tie.Need-returns-3
-unfolding afterData
+unfolding afterDataBit
 returns-3 c =
     simp (
       c .write-data3 .ensures,

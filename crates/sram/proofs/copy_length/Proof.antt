@@ -1,6 +1,6 @@
 use native.Mathlib.Omega.{arith}
 use borrow.Author.Tests.{lt-ltb, le-ltb, le-leb, lt-leb}
-use Rattle.sram.specs.Sram.{endingOffset, target, targetOffset, copyLength}
+use Rattle.sram.specs.Sram.{endingOffset, targetAddress, targetOffset, copyLength}
 use borrow.Author.Needs.{needs}
 use Rattle.sram.proofs.copy_length.Statement.{statement}
 use Rattle.sram.proofs.copy_length.Tie as tie
@@ -16,7 +16,7 @@ unfolding copyLength
 returns-2 c =
     let body = c .before .before .before .before .before .before .args .body .now in
     let size = c .before .before .before .before .before .before .args .size in
-    simp (le-ltb (endingOffset body) (targetOffset body) (omega arith), le-leb size (target body) (omega arith))
+    simp (le-ltb (endingOffset body) (targetOffset body) (omega arith), le-leb size (targetAddress body) (omega arith))
 
 returns-3 : tie.Need-returns-3
 unfolding copyLength
@@ -27,7 +27,7 @@ returns-3 c =
       c .before .before .before .ending-offset .ensures,
       c .before .before .before .before .target-offset .ensures,
       le-ltb (endingOffset body) (targetOffset body) (omega arith),
-      lt-leb size (target body) (omega arith),
+      lt-leb size (targetAddress body) (omega arith),
     )
 
 pub copy-length-spec : {M : Type 1} → statement M

@@ -13,10 +13,10 @@ use Rattle.device.specs.declared.LineState.{LineState}
 use Rattle.device.specs.Device.{waitingState}
 use Rattle.bus.proofs.Lines.{R, mach, typed, lawfulR, copyR, line}
 use Rattle.bus.proofs.Shapes.{waiting-shape}
-use Rattle.discovery.specs.Search.{searchOf}
-use Rattle.discovery.specs.Searched.{Searched}
+use Rattle.search_laws.specs.Search.{searchOf}
+use Rattle.search_laws.specs.Searched.{Searched}
 use Rattle.search.specs.declared.Found.{Found}
-use Rattle.search.specs.Found.{SearchOutcome, SearchLeaves, searchedOf}
+use Rattle.search.specs.Found.{SearchOutcome, SearchLeaves, searchOutcomeOf}
 use Rattle.search.proofs.Shapes.{found, search-shape}
 use Rattle.troughiron.specs.Host.{OwnSearchLeaves, hostSearch}
 use Rattle.device.proofs.LineState.waiting as waiting
@@ -52,7 +52,7 @@ module _ {M : Type 1} (𝓤 : URA M) (H : Heap 𝓤) (A : Atoms 𝓤) (W : Given
   xs = replicate 64 waitingState
 
   abbrev left : SearchOutcome
-  left = searchedOf im (x₁ .now) (x₂ .now) xs
+  left = searchOutcomeOf im (x₁ .now) (x₂ .now) xs
 
   each : {X Y Z : Type 0} {a a′ : X} {b b′ : Y} {c c′ : Z} → a ≡ a′ → b ≡ b′ → c ≡ c′
       → _≡_ {A = Unit {0} × (X × (Y × (Z × Unit {0})))} (tt, (a, (b, (c, tt)))) (tt, (a′, (b′, (c′, tt))))

@@ -10,7 +10,7 @@ returns c =
     simp (
       c .before .before .pulse-as-is .ensures .0,
       c .before .before .pulse-as-is .ensures .1,
-      c .before .before .before .before .taken .ensures,
+      c .before .before .before .before .or-waiting .ensures,
     ) (refl, refl)
 
 pub pulse-spec : {M : Type 1} → statement M

@@ -1,11 +1,11 @@
-use Rattle.device.specs.Device.{programAsIs, pulseAsIs}
+use Rattle.device.specs.Device.{bodyAfterPulseAsIs, stateAfterPulseAsIs}
 use mathlib.Core.Path.{refl}
 use borrow.Author.Needs.{needs}
 use Rattle.device.proofs.LineState.pulse_as_is.Statement.{statement}
 use Rattle.device.proofs.LineState.pulse_as_is.Tie as tie
 
 returns : tie.Need-returns
-unfolding pulseAsIs programAsIs
+unfolding stateAfterPulseAsIs bodyAfterPulseAsIs
 returns c =
     simp (
       c .before .before .stage-program .ensures,

@@ -1,10 +1,10 @@
-use Rattle.device.specs.Device.{pulseAsIs}
+use Rattle.device.specs.Device.{stateAfterPulseAsIs}
 use borrow.Author.Needs.{needs}
 use Rattle.device.proofs.LineState.pulsed_as_is.Statement.{statement}
 use Rattle.device.proofs.LineState.pulsed_as_is.Tie as tie
 
 returns : tie.Need-returns
-unfolding pulseAsIs
+unfolding stateAfterPulseAsIs
 returns c = simp (c .stage-pulse .ensures)
 
 pub pulsed-as-is-spec : {M : Type 1} → statement M

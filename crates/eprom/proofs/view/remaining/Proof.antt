@@ -1,5 +1,5 @@
 use Rattle.eprom.proofs.Laws.{cut-within, named, not-named, to-the-end, same-place}
-use Rattle.eprom.specs.Fields.{cut}
+use Rattle.eprom.specs.Fields.{cutAddress}
 use Rattle.eprom.specs.View.{namesData, namesStatus, bytesToRead, placeToRead}
 use Rattle.line.specs.declared.Field.the-variants.{Data, Status}
 use borrow.Author.Tests.{not-true, not-false, ne-eqb}
@@ -44,7 +44,7 @@ returns-2 c =
     let a = s .before .before .before .args in
     let fit = sym (s .fields-fit .ensures) ∙ not-false _ (c .before .before .before .before .if1 .left) in
     simp (fit, named (a .command) (c .before .match .keys1), c .before .before .before .cut .ensures)
-    (to-the-end (cut Data (a .address)) (a .«data» .now), same-place _ _ refl (omega arith))
+    (to-the-end (cutAddress Data (a .address)) (a .«data» .now), same-place _ _ refl (omega arith))
 
 returns-3 : tie.Need-returns-3
 unfolding bytesToRead placeToRead namesData namesStatus
@@ -53,7 +53,7 @@ returns-3 c =
     let a = s .before .before .before .args in
     let fit = sym (s .fields-fit .ensures) ∙ not-false _ (c .before .before .before .before .if1 .left) in
     simp (fit, c .before .match .keys2, c .before .before .cut2 .ensures)
-    (to-the-end (cut Status (a .address)) (a .status .now), same-place _ _ refl (omega arith))
+    (to-the-end (cutAddress Status (a .address)) (a .status .now), same-place _ _ refl (omega arith))
 
 returns-4 : tie.Need-returns-4
 unfolding bytesToRead placeToRead namesStatus

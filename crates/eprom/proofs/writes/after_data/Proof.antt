@@ -1,10 +1,10 @@
-use Rattle.eprom.specs.Writes.{afterData}
+use Rattle.eprom.specs.Writes.{afterDataByte}
 use borrow.Author.Needs.{needs}
 use Rattle.eprom.proofs.writes.after_data.Statement.{statement}
 use Rattle.eprom.proofs.writes.after_data.Tie as tie
 
 returns : tie.Need-returns
-unfolding afterData
+unfolding afterDataByte
 returns c = simp (c .sending .ensures, c .before .crc-byte .ensures, c .before .before .in-eprom .ensures)
 
 pub after-data-spec : {M : Type 1} → statement M

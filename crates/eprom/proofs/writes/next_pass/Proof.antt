@@ -1,4 +1,4 @@
-use Rattle.eprom.specs.Writes.{nextPass}
+use Rattle.eprom.specs.Writes.{nextWritePass}
 use Rattle.eprom.specs.Fields.{fieldLength}
 use Prim.Native.Nat.{_+_}
 use native.Mathlib.Omega.{arith}
@@ -12,7 +12,7 @@ sub-last : tie.Need-sub-last
 sub-last c = omega (arith, length-least (c .before .args .field))
 
 returns : tie.Need-returns
-unfolding nextPass
+unfolding nextWritePass
 returns c =
     let a = c .before .before .before .args in
     let e = c .before .before .field-length .ensures in
@@ -20,7 +20,7 @@ returns c =
     simp (c .write-data .ensures, lt-ltb (a .address + 1) n (omega (arith, length-least (a .field))))
 
 returns-2 : tie.Need-returns-2
-unfolding nextPass
+unfolding nextWritePass
 returns-2 c =
     let a = c .before .before .before .args in
     let e = c .before .before .field-length .ensures in

@@ -1,5 +1,5 @@
 use native.Mathlib.Omega.{arith}
-use Rattle.eprom.specs.Writes.{programmed}
+use Rattle.eprom.specs.Writes.{programmedBody}
 use Rattle.eprom.proofs.Laws.{start-most}
 use borrow.Author.Needs.{needs}
 use Rattle.eprom.proofs.writes.program_byte.Statement.{statement}
@@ -9,7 +9,7 @@ add-put-byte : tie.Need-add-put-byte
 add-put-byte c = omega (arith, start-most (c .before .before .before .before .before .args .field))
 
 returns : tie.Need-returns
-unfolding programmed
+unfolding programmedBody
 returns c =
     simp (
       c .before .before .put-byte .ensures,

@@ -1,4 +1,4 @@
-use Rattle.master.specs.Master.{afterLevel, stepByStage, withStage}
+use Rattle.master.specs.Master.{masterAfterLevel, stepByStage, masterAtStage}
 use borrow.Author.Tests.{not-false, not-true}
 use mathlib.Core.Path.{_∙_, sym}
 use mathlib.Core.Path.{sym, ap, _∙_}
@@ -10,7 +10,7 @@ use Rattle.master.proofs.Master.after.Statement.{statement}
 use Rattle.master.proofs.Master.after.Tie as tie
 
 returns : tie.Need-returns
-unfolding afterLevel
+unfolding masterAfterLevel
 returns c = simp (c .with-stage .ensures, sym (c .before .before .in-range .ensures) ∙ not-true _ (c .before .if1 .taken))
 
 after-direction-requires : tie.Need-after-direction-requires
@@ -18,7 +18,7 @@ after-direction-requires c κs = fewer-passes _ _ _ (c .before .stage4 .given .1
 
 returns-2 : tie.Need-returns-2
 unfolding stepByStage
-returns-2 c = c .with-stage2 .ensures ∙ ap (λ (m : Master). withStage m Reset) (c .before .fresh .ensures) ∙ sym (goes-by-stage _ _ _ (c .before .before .enum-told .given .1) (sym (c .before .before .before .before .before .in-range .ensures) ∙ not-false _ (c .before .before .before .before .if1 .left)))
+returns-2 c = c .with-stage2 .ensures ∙ ap (λ (m : Master). masterAtStage m Reset) (c .before .fresh .ensures) ∙ sym (goes-by-stage _ _ _ (c .before .before .enum-told .given .1) (sym (c .before .before .before .before .before .in-range .ensures) ∙ not-false _ (c .before .before .before .before .if1 .left)))
 
 returns-3 : tie.Need-returns-3
 unfolding stepByStage

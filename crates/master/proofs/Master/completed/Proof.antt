@@ -1,11 +1,11 @@
-use Rattle.master.specs.Master.{completed}
+use Rattle.master.specs.Master.{passCompleted}
 use mathlib.Core.Path.{refl}
 use borrow.Author.Needs.{needs}
 use Rattle.master.proofs.Master.completed.Statement.{statement}
 use Rattle.master.proofs.Master.completed.Tie as tie
 
 returns : tie.Need-returns
-unfolding completed
+unfolding passCompleted
 returns c = refl
 
 pub completed-spec : {M : Type 1} → statement M

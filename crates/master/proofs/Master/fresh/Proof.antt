@@ -1,10 +1,10 @@
-use Rattle.master.specs.Master.{fresh}
+use Rattle.master.specs.Master.{freshMaster}
 use mathlib.Core.Path.{refl}
 use Rattle.master.proofs.Master.fresh.Statement.{statement}
 use Rattle.master.proofs.Master.fresh.Tie as tie
 
 returns : tie.Need-returns
-unfolding fresh
+unfolding freshMaster
 returns c = refl
 
 pub fresh-spec : {M : Type 1} → statement M

@@ -1,10 +1,10 @@
-use Rattle.master.specs.Master.{withStage}
+use Rattle.master.specs.Master.{masterAtStage}
 use mathlib.Core.Path.{refl}
 use Rattle.master.proofs.Master.with_stage.Statement.{statement}
 use Rattle.master.proofs.Master.with_stage.Tie as tie
 
 returns : tie.Need-returns
-unfolding withStage
+unfolding masterAtStage
 returns c = refl
 
 pub with-stage-spec : {M : Type 1} → statement M
