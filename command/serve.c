@@ -178,7 +178,6 @@ static int serve_all(struct serve *s)
 {
     int status = DONE;
 
-    interrupt_keep();
     if (!s->link)
         printf("%s\n", s->terminal.name);
     if (report_flush(stdout) != DONE)
@@ -265,8 +264,11 @@ static int open_all(struct serve *s)
         status = check_files(s);
     if (status == DONE && s->log_path)
         status = open_log(s);
-    if (status == DONE)
+    /* From the link on an end leaves nothing behind. */
+    if (status == DONE) {
+        interrupt_keep();
         status = terminal_open(&s->terminal, s->link);
+    }
     bytes_free(&image);
     return status;
 }
