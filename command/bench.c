@@ -81,7 +81,7 @@ const char *bench_add(struct bench *b, const char *word)
         return "a device such as ds1992, ds1993:000000FBC52B, ds1992,flat, ds1982@FILE or 3xds1992 expected";
     if (repeat > 1 && plan.has_serial)
         return "a serial number is for one device";
-    if (repeat > MOST_PLANNED - b->count)
+    if (repeat > MOST_PLANNED - b->count - (b->others ? image_count(b->others) : 0))
         return "at most 255 devices in all expected";
     for (size_t i = 0; i < repeat; i++) {
         b->plans[b->count] = plan;
@@ -93,12 +93,23 @@ const char *bench_add(struct bench *b, const char *word)
 /* ------------------------------------------------------------------ */
 /* Serial numbers and memories                                         */
 
+static bool code_is_there(const struct bytes *image, const struct kind *kind, uint64_t serial)
+{
+    uint8_t code[CODE_SIZE];
+
+    code_make(code, kind->family, serial);
+    for (size_t i = 0; i < image_count(image); i++)
+        if (memcmp(image_device(image, i).body, code, CODE_SIZE) == 0)
+            return true;
+    return false;
+}
+
 static bool serial_is_given(const struct bench *b, const struct kind *kind, uint64_t serial)
 {
     for (size_t i = 0; i < b->count; i++)
         if (b->plans[i].has_serial && b->plans[i].kind == kind && b->plans[i].serial == serial)
             return true;
-    return false;
+    return b->others && code_is_there(b->others, kind, serial);
 }
 
 static uint64_t count_up(struct bench *b)
@@ -146,31 +157,6 @@ size_t bench_from_input(const struct bench *b)
 /* ------------------------------------------------------------------ */
 /* The image                                                           */
 
-/* Edition 2 only where a device is flat: an image that edition 1 can say is the same for older programs. */
-static uint8_t edition_for(const struct bench *b)
-{
-    for (size_t i = 0; i < b->count; i++)
-        if (b->plans[i].flat)
-            return EDITION_WITH_FLAT;
-    return EDITION;
-}
-
-static void add_table(struct bytes *image, const struct bench *b)
-{
-    size_t offset = TABLE + ENTRY_SIZE * b->count;
-    const uint8_t head[TABLE] = { (uint8_t)b->count, edition_for(b) };
-
-    bytes_add(image, head, TABLE);
-    for (size_t i = 0; i < b->count; i++) {
-        const struct plan *const plan = &b->plans[i];
-        const uint8_t entry[ENTRY_SIZE] = { plan->kind->family, plan->flat ? TROUGHIRON_FLAT : TROUGHIRON_GOOD,
-                                            (uint8_t)offset, (uint8_t)(offset >> 8) };
-
-        bytes_add(image, entry, ENTRY_SIZE);
-        offset += kind_body_size(plan->kind);
-    }
-}
-
 /* A new DS1982 is all ones but for its last status byte. */
 static void add_registers(struct bytes *image, const struct kind *kind)
 {
@@ -200,7 +186,7 @@ static int add_memory(struct bytes *image, const struct bench *b, const struct p
     return status;
 }
 
-static int add_bodies(struct bytes *image, const struct bench *b)
+static int add_bodies(struct bytes *bodies, const struct bench *b)
 {
     int status = DONE;
 
@@ -208,19 +194,38 @@ static int add_bodies(struct bytes *image, const struct bench *b)
         uint8_t code[CODE_SIZE];
 
         code_make(code, b->plans[i].kind->family, b->plans[i].serial);
-        bytes_add(image, code, CODE_SIZE);
-        add_registers(image, b->plans[i].kind);
-        status = add_memory(image, b, &b->plans[i]);
+        bytes_add(bodies, code, CODE_SIZE);
+        add_registers(bodies, b->plans[i].kind);
+        status = add_memory(bodies, b, &b->plans[i]);
     }
     return status;
 }
 
+/* The devices of the image that there is, then those of the plans. */
+static void add_devices(struct bytes *image, const struct bench *b, const uint8_t *bodies)
+{
+    struct device list[2 * MOST_PLANNED];
+    size_t count = b->others ? image_devices(b->others, list) : 0;
+
+    for (size_t i = 0; i < b->count; i++) {
+        list[count++] = (struct device){ .kind = b->plans[i].kind, .flat = b->plans[i].flat, .body = bodies };
+        bodies += kind_body_size(b->plans[i].kind);
+    }
+    image_of(image, list, count);
+}
+
 int bench_image(struct bytes *image, struct bench *b, const char *name)
 {
-    number_devices(b);
-    add_table(image, b);
+    struct bytes bodies = { 0 };
 
-    const int status = add_bodies(image, b);
+    number_devices(b);
+
+    const int status = add_bodies(&bodies, b);
+
+    if (status == DONE)
+        add_devices(image, b, bodies.data);
+    bytes_free(&bodies);
+
     const uint32_t refusal = status == DONE ? image_refusal(image) : 0;
 
     return refusal ? image_refused(name, image, refusal) : status;

@@ -24,10 +24,11 @@ struct bench {
     bool filled; /* with fill, else as a new device is */
     uint8_t fill;
     const char *memory; /* the path of a file for every device without one, or null */
+    const struct bytes *others; /* an image whose devices come before these, or null */
     const char *beside; /* a file beside which those of the words are, or null: in the working folder */
 };
 
-/* Adds the devices of a word. Returns null, or what was expected in its place. */
+/* Adds the devices of a word to those to be made. Returns null, or what was expected in its place. */
 const char *bench_add(struct bench *b, const char *word);
 
 /* How many memories are to come from standard input. */

@@ -2,6 +2,7 @@
 #include "bytes.h"
 #include "code.h"
 #include "commands.h"
+#include "json.h"
 #include "outputs.h"
 #include "status.h"
 #include "troughiron.h"
@@ -119,7 +120,7 @@ static bool code_read(uint8_t code[CODE_SIZE], enum reading *reading, const char
 /* ------------------------------------------------------------------ */
 /* The command                                                         */
 
-static int check_code(uint8_t code[CODE_SIZE], enum reading reading)
+static void print_checked(uint8_t code[CODE_SIZE], enum reading reading, bool valid)
 {
     static const char *const readings[] = {
         "read as engraved",
@@ -127,7 +128,6 @@ static int check_code(uint8_t code[CODE_SIZE], enum reading reading)
         "read as engraved, and given its CRC",
     };
     const struct kind *const kind = kind_of_family(code[0]);
-    const bool valid = is_valid(code);
     char text[CODE_TEXT];
 
     code_write(text, code);
@@ -137,8 +137,41 @@ static int check_code(uint8_t code[CODE_SIZE], enum reading reading)
         printf(", the CRC of these bytes is %02X", code[7]);
     }
     printf(", %s, %s\n", kind ? kind->name : "a family that the bench does not have", readings[reading]);
+}
 
-    const int status = report_flush(stdout);
+static int checked_json(uint8_t code[CODE_SIZE], enum reading reading, bool valid)
+{
+    static const char *const readings[] = { "engraved", "wire", "without CRC" };
+    const struct kind *const kind = kind_of_family(code[0]);
+    struct json json = { 0 };
+    char text[CODE_TEXT];
+
+    code_write(text, code);
+    json_start(&json, "check");
+    json_text(&json, "code", text);
+    json_bytes(&json, "wire", code, CODE_SIZE);
+    json_text(&json, "read_as", readings[reading]);
+    json_truth(&json, "valid", valid);
+    code_complete(code);
+    json_bytes(&json, "CRC", code + CODE_SIZE - 1, 1);
+    if (kind)
+        json_text(&json, "kind", kind->name);
+    else
+        json_null(&json, "kind");
+    return json_end(&json, stdout);
+}
+
+static int check_code(uint8_t code[CODE_SIZE], enum reading reading, bool json)
+{
+    const bool valid = is_valid(code);
+    int status;
+
+    if (json) {
+        status = checked_json(code, reading, valid);
+    } else {
+        print_checked(code, reading, valid);
+        status = report_flush(stdout);
+    }
 
     return status != DONE ? status : valid ? DONE : NOT_VALID;
 }
@@ -156,7 +189,9 @@ int check_command(struct words *words)
     char text[LONGEST] = "";
     uint8_t code[CODE_SIZE];
     enum reading reading;
-    const int status = options_take(words, NULL, 0);
+    bool json = false;
+    const struct option options[] = { { "--json", NULL, &json } };
+    const int status = options_take(words, options, sizeof options / sizeof *options);
 
     if (status != DONE)
         return status;
@@ -168,5 +203,5 @@ int check_command(struct words *words)
         strcat(text, i > 0 ? " " : "");
         strcat(text, words->list[i]);
     }
-    return code_read(code, &reading, text) ? check_code(code, reading) : not_a_code(text);
+    return code_read(code, &reading, text) ? check_code(code, reading, json) : not_a_code(text);
 }

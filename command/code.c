@@ -39,6 +39,15 @@ static bool digits_parse(uint64_t *number, const char *text, size_t digits, bool
     return count == digits;
 }
 
+bool hex_parse(size_t *number, const char *text, int digits)
+{
+    uint64_t value;
+    const bool parsed = digits_parse(&value, text, (size_t)digits, false);
+
+    *number = (size_t)value;
+    return parsed;
+}
+
 bool serial_parse(uint64_t *serial, const char *text)
 {
     return digits_parse(serial, text, SERIAL_DIGITS, false);

@@ -30,6 +30,9 @@ void code_complete(uint8_t code[CODE_SIZE]);
 /* The value of a hexadecimal digit, or -1. */
 int digit_value(char digit);
 
+/* A number of so many hexadecimal digits, and nothing after them. */
+bool hex_parse(size_t *number, const char *text, int digits);
+
 /* Two hexadecimal digits, and nothing after them. */
 bool byte_parse(uint8_t *byte, const char *text);
 

@@ -3,9 +3,11 @@
 _troughiron_options() {
     case $1 in
         new) echo --fill --memory --serial --empty --force ;;
-        run) echo --output --trace --answers --write-trace --vcd --bits --quiet --room --force ;;
-        test) echo --junit --force ;;
-        search) echo --answers --write-trace --vcd --force ;;
+        show | check) echo --json ;;
+        edit) echo --output --force ;;
+        run) echo --output --trace --answers --write-trace --vcd --html --json --bits --quiet --room --force ;;
+        test) echo --junit --json --force ;;
+        search) echo --json --answers --write-trace --vcd --force ;;
         serve) echo --adapter --link --output --record --log --script --quiet --force ;;
     esac
 }
@@ -14,14 +16,16 @@ _troughiron() {
     local word=${COMP_WORDS[COMP_CWORD]} before=${COMP_WORDS[COMP_CWORD - 1]} command=${COMP_WORDS[1]} words=''
 
     if [ "$COMP_CWORD" = 1 ]; then
-        words='new show run test search check serve help --version --help'
+        words='new show edit run test search check serve help --version --help'
     elif [ "$command" = help ]; then
-        words='new show run test search check serve'
+        words='new show edit run test search check serve'
     elif [ "$before" = --adapter ]; then
         words='ds9097 ds2480b'
     elif [ "${word#-}" != "$word" ]; then
         words="$(_troughiron_options "$command") --help"
-    elif [ "$command" = new ] && [ "$COMP_CWORD" -gt 2 ]; then
+    elif [ "$command" = edit ] && [ "$COMP_CWORD" = 3 ]; then
+        words='add remove set take'
+    elif [ "$command" = new ] && [ "$COMP_CWORD" -gt 2 ] || [ "$command $before" = 'edit add' ]; then
         words='ds1992 ds1993 ds1982 ds1992,flat ds1993,flat'
     fi
     COMPREPLY=()

@@ -6,18 +6,6 @@
 #include <string.h>
 #include <strings.h>
 
-/* A number of so many hexadecimal digits, or false. */
-static bool hex_parse(size_t *number, const char *text, int digits)
-{
-    *number = 0;
-    for (; *text; text++, digits--) {
-        if (digit_value(*text) < 0 || digits == 0)
-            return false;
-        *number = 16 * *number + (size_t)digit_value(*text);
-    }
-    return digits == 0;
-}
-
 static int expect_field(struct reader *r, const struct device *device, struct field field)
 {
     const char *const word = next_word(r);

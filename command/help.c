@@ -9,6 +9,7 @@ static const char whole[] =
     "\n"
     "  new IMAGE DEVICE...    write an image of a bench\n"
     "  show IMAGE             print every device of an image\n"
+    "  edit IMAGE VERB...     add, remove or set devices, or take a memory out to a file\n"
     "  run IMAGE SESSION      run a session and print what the line answered\n"
     "  run SESSION            the same of a session that names its bench\n"
     "  test SESSION...        run sessions that name their bench as tests, a line each\n"
@@ -41,10 +42,26 @@ static const char new_help[] =
     "  -f, --force      replace IMAGE where it is an image; else no file that is there is replaced\n";
 
 static const char show_help[] =
-    "usage: troughiron show IMAGE\n"
+    "usage: troughiron show [--json] IMAGE\n"
     "\n"
     "Prints every device: kind and code, a flat battery, TA, E/S with its flags, scratchpad and memory; of a DS1982\n"
-    "status and data, with the pages that are write-protected or redirected. A redirection is shown, not followed.\n";
+    "status and data, with the pages that are write-protected or redirected. A redirection is shown, not followed.\n"
+    "\n"
+    "  --json    print it for programs\n";
+
+static const char edit_help[] =
+    "usage: troughiron edit [OPTION...] IMAGE VERB...\n"
+    "\n"
+    "Changes an image, complete or not at all, where the library accepts what comes of it:\n"
+    "  add DEVICE...              devices after those that are there, as for 'new'\n"
+    "  remove #2...               devices; those after them move up\n"
+    "  set #2 memory 0026 41 37   bytes from an address on; so too scratchpad, and data and status of a DS1982\n"
+    "  set #2 TA 0026             a register, TA or E/S\n"
+    "  set #2 flat                the battery, flat or good\n"
+    "  take #2 FILE               write the memory, or the data of a DS1982, to FILE; the image stays as it is\n"
+    "\n"
+    "  -o, --output FILE    write the changed image to FILE, and leave IMAGE as it is\n"
+    "  -f, --force          replace FILE where it is an image or, for 'take', has the size of a memory\n";
 
 static const char run_help[] =
     "usage: troughiron run [OPTION...] IMAGE SESSION\n"
@@ -84,6 +101,8 @@ static const char run_help[] =
     "  --answers FILE       write the answers, a byte for each event\n"
     "  --write-trace FILE   write the events, a byte each\n"
     "  --vcd FILE           write the line as a waveform, with a save file for GTKWave (.gtkw) beside it\n"
+    "  --html FILE          write the run as a page for a browser: the line, its bytes, and what changed\n"
+    "  --json               print the report for programs\n"
     "  --bits               show every slot, not only bytes\n"
     "  --quiet              print no report\n"
     "  --room N             lend the run N bytes for the answers; too few are refused (7)\n"
@@ -99,6 +118,7 @@ static const char test_help[] =
     "\n"
     "  -j N             run so many side by side, 1 to 64\n"
     "  --junit FILE     write the outcome as a JUnit file too\n"
+    "  --json           print the outcome for programs, in place of those lines\n"
     "  -f, --force      replace FILE where it is such a file of this command\n";
 
 static const char search_help[] =
@@ -107,13 +127,14 @@ static const char search_help[] =
     "Finds the codes on the line as a searching master does, in its order, with the numbers of passes, "
     "resets and slots.\n"
     "\n"
+    "  --json               print the report for programs\n"
     "  --answers FILE       write the answers that the master saw, a byte for each event\n"
     "  --write-trace FILE   write the events that it sent, a byte each\n"
     "  --vcd FILE           write the line as a waveform, with a save file for GTKWave (.gtkw) beside it\n"
     "  -f, --force          replace files that are there, each only by its like\n";
 
 static const char check_help[] =
-    "usage: troughiron check CODE\n"
+    "usage: troughiron check [--json] CODE\n"
     "\n"
     "Checks a registration code and says in which order it was read:\n"
     "  08 000000000001 C6         family code, serial number as engraved, CRC\n"
@@ -121,7 +142,9 @@ static const char check_help[] =
     "  08.000000000001            without a CRC\n"
     "with blanks, dashes, dots and colons between the digits, and a report's #1 and DS1992 beside them. The order is\n"
     "that in which the CRC is right; where that does not tell, eight pairs of digits are in the order of the line.\n"
-    "Ends with 0 for a valid code and with 3 for another.\n";
+    "Ends with 0 for a valid code and with 3 for another.\n"
+    "\n"
+    "  --json    print it for programs\n";
 
 static const char serve_help[] =
     "usage: troughiron serve [OPTION...] IMAGE\n"
@@ -151,6 +174,7 @@ const char *help_text(const char *command)
     static const struct {
         const char *command, *text;
     } texts[] = { { "", whole },        { "new", new_help },       { "show", show_help },
+                  { "edit", edit_help },
                   { "run", run_help },  { "search", search_help }, { "check", check_help },
                   { "serve", serve_help }, { "test", test_help } };
 

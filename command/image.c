@@ -6,6 +6,7 @@
 #include "troughiron.h"
 
 #include <stdio.h>
+#include <stdlib.h>
 
 /* A run of no events changes nothing, and is refused exactly where the image is. */
 uint32_t image_refusal(const struct bytes *image)
@@ -42,6 +43,47 @@ struct device image_device(const struct bytes *image, size_t index)
         .flat = entry[1] == TROUGHIRON_FLAT,
         .body = image->data + entry[2] + 256 * entry[3],
     };
+}
+
+size_t image_index(const struct bytes *image, const char *word)
+{
+    const size_t count = image_count(image);
+    char *end;
+    const unsigned long number = word[0] == '#' ? strtoul(word + 1, &end, 10) : 0;
+
+    return number >= 1 && number <= count && *end == '\0' ? number - 1 : count;
+}
+
+size_t image_devices(const struct bytes *image, struct device *list)
+{
+    for (size_t i = 0; i < image_count(image); i++)
+        list[i] = image_device(image, i);
+    return image_count(image);
+}
+
+static uint8_t edition_for(const struct device *list, size_t count)
+{
+    for (size_t i = 0; i < count; i++)
+        if (list[i].flat)
+            return EDITION_WITH_FLAT;
+    return EDITION;
+}
+
+void image_of(struct bytes *image, const struct device *list, size_t count)
+{
+    const uint8_t head[TABLE] = { (uint8_t)count, edition_for(list, count) };
+    size_t offset = TABLE + ENTRY_SIZE * count;
+
+    bytes_add(image, head, TABLE);
+    for (size_t i = 0; i < count; i++) {
+        const uint8_t entry[ENTRY_SIZE] = { list[i].kind->family, list[i].flat ? TROUGHIRON_FLAT : TROUGHIRON_GOOD,
+                                            (uint8_t)offset, (uint8_t)(offset >> 8) };
+
+        bytes_add(image, entry, ENTRY_SIZE);
+        offset += kind_body_size(list[i].kind);
+    }
+    for (size_t i = 0; i < count; i++)
+        bytes_add(image, list[i].body, kind_body_size(list[i].kind));
 }
 
 void device_write(char text[DEVICE_TEXT], const struct device *device)

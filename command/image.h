@@ -26,6 +26,18 @@ uint32_t image_refusal(const struct bytes *image);
 size_t image_count(const struct bytes *image);
 struct device image_device(const struct bytes *image, size_t index);
 
+/* The index of "#2", a device of an accepted image, or the number of its devices where it has no such device. */
+size_t image_index(const struct bytes *image, const char *word);
+
+/*
+ * The image of a list of devices. Edition 2 only where one of them is flat: an image that edition 1 can say is the same
+ * for older programs.
+ */
+void image_of(struct bytes *image, const struct device *list, size_t count);
+
+/* The devices of an accepted image, in room for as many as it has. Returns how many they are. */
+size_t image_devices(const struct bytes *image, struct device *list);
+
 /* Writes "#2 DS1992 08 000000000002 E4", the name of a device, into room for it. */
 enum { DEVICE_TEXT = 48 };
 void device_write(char text[DEVICE_TEXT], const struct device *device);

@@ -29,6 +29,14 @@ const struct kind *kind_named(const char *name, size_t length)
     return NULL;
 }
 
+bool kind_with_memory(size_t size)
+{
+    for (size_t i = 0; i < KINDS; i++)
+        if (kinds[i].memory_size == size)
+            return true;
+    return false;
+}
+
 size_t kind_body_size(const struct kind *kind)
 {
     return kind->memory + kind->memory_size;

@@ -32,6 +32,9 @@ struct kind {
 const struct kind *kind_of_family(uint8_t family);
 const struct kind *kind_named(const char *name, size_t length);
 
+/* Whether a kind has a memory of so many bytes. */
+bool kind_with_memory(size_t size);
+
 /* A body ends with its memory. */
 size_t kind_body_size(const struct kind *kind);
 

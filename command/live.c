@@ -7,35 +7,15 @@
 /* ------------------------------------------------------------------ */
 /* The image of those that are attached                                */
 
-static void add_entry(struct bytes *image, const uint8_t *entry, size_t offset)
-{
-    const uint8_t moved[ENTRY_SIZE] = { entry[0], entry[1], (uint8_t)offset, (uint8_t)(offset >> 8) };
-
-    bytes_add(image, moved, ENTRY_SIZE);
-}
-
-static const uint8_t *entry_of(const struct live *l, size_t index)
-{
-    return l->image.data + TABLE + ENTRY_SIZE * index;
-}
-
 static void add_attached(struct bytes *image, const struct live *l)
 {
-    const uint8_t head[TABLE] = { (uint8_t)live_count(l), l->image.data[1] };
-    size_t offset = TABLE + ENTRY_SIZE * live_count(l);
+    struct device list[TROUGHIRON_MOST_DEVICES];
+    size_t count = 0;
 
-    bytes_add(image, head, TABLE);
     for (size_t i = 0; i < image_count(&l->image); i++)
-        if (l->attached[i]) {
-            add_entry(image, entry_of(l, i), offset);
-            offset += kind_body_size(image_device(&l->image, i).kind);
-        }
-    for (size_t i = 0; i < image_count(&l->image); i++)
-        if (l->attached[i]) {
-            const struct device device = image_device(&l->image, i);
-
-            bytes_add(image, device.body, kind_body_size(device.kind));
-        }
+        if (l->attached[i])
+            list[count++] = image_device(&l->image, i);
+    image_of(image, list, count);
 }
 
 /* The bodies on the line are where the table of contents has them, in the order of the devices. */

@@ -42,6 +42,7 @@ static int dispatch(struct words *words)
         int (*run)(struct words *words);
     } commands[] = { { "new", new_command },
                      { "show", show_command },
+                     { "edit", edit_command },
                      { "run", run_command },
                      { "test", test_command },
                      { "search", search_command },

@@ -10,7 +10,7 @@
 #include <stddef.h>
 #include <stdio.h>
 
-enum { MOST_OUTPUTS = 6 };
+enum { MOST_OUTPUTS = 7 };
 
 struct output {
     const char *path;

@@ -20,7 +20,7 @@ static size_t times_named(const char *const *paths, size_t count, const char *pa
 
 FILE *record_report(const char *command, const struct record_paths *paths)
 {
-    const char *const all[] = { paths->image, paths->answers, paths->trace, paths->vcd };
+    const char *const all[] = { paths->image, paths->answers, paths->trace, paths->vcd, paths->html };
     const size_t count = sizeof all / sizeof *all;
 
     for (size_t i = 0; i < count; i++)
@@ -37,13 +37,13 @@ struct picture {
     char *save_path, *steps_path;
 };
 
-static void picture_draw(struct picture *p, const char *path, const struct session *s, const struct bytes *answers)
+static void picture_draw(struct picture *p, const char *path, const struct run_outcome *run)
 {
-    vcd_write(&p->vcd, s, answers->data);
+    vcd_write(&p->vcd, run->session, run->answers);
     p->save_path = save_path(path);
     p->steps_path = steps_path(path);
     save_write(&p->save, path);
-    steps_write(&p->steps, s);
+    steps_write(&p->steps, run->session);
 }
 
 static void picture_free(struct picture *p)
@@ -55,28 +55,34 @@ static void picture_free(struct picture *p)
     free(p->steps_path);
 }
 
-int record_write(const struct record_paths *paths, FILE *report, const struct session *s, const struct bytes *answers,
-                 const struct bytes *image)
+int record_write(const struct record_paths *paths, FILE *report, const struct run_outcome *run,
+                 const struct bytes *page)
 {
+    const struct bytes *const events = &run->session->events;
     struct outputs outputs = { .replacing = paths->replacing };
     struct picture picture = { 0 };
 
     if (paths->vcd)
-        picture_draw(&picture, paths->vcd, s, answers);
+        picture_draw(&picture, paths->vcd, run);
 
     const struct {
         const char *path;
         enum holding holding;
-        const struct bytes *bytes;
+        const void *bytes;
+        size_t length;
     } files[] = {
-        { paths->answers, HOLDS_ANSWERS, answers },         { paths->trace, HOLDS_TRACE, &s->events },
-        { paths->vcd, HOLDS_WAVEFORM, &picture.vcd },       { picture.save_path, HOLDS_SAVE, &picture.save },
-        { picture.steps_path, HOLDS_STEPS, &picture.steps }, { paths->image, HOLDS_IMAGE, image },
+        { paths->answers, HOLDS_ANSWERS, run->answers, events->length },
+        { paths->trace, HOLDS_TRACE, events->data, events->length },
+        { paths->vcd, HOLDS_WAVEFORM, picture.vcd.data, picture.vcd.length },
+        { picture.save_path, HOLDS_SAVE, picture.save.data, picture.save.length },
+        { picture.steps_path, HOLDS_STEPS, picture.steps.data, picture.steps.length },
+        { paths->html, HOLDS_PAGE, page ? page->data : NULL, page ? page->length : 0 },
+        { paths->image, HOLDS_IMAGE, run->after->data, run->after->length },
     };
     int status = DONE;
 
     for (size_t i = 0; i < sizeof files / sizeof *files && status == DONE; i++)
-        status = outputs_stage(&outputs, files[i].path, files[i].holding, files[i].bytes->data, files[i].bytes->length);
+        status = outputs_stage(&outputs, files[i].path, files[i].holding, files[i].bytes, files[i].length);
     if (status == DONE)
         status = outputs_commit(&outputs, report);
     outputs_free(&outputs);

@@ -4,13 +4,13 @@
 
 #include "bytes.h"
 #include "replace.h"
-#include "session.h"
+#include "report.h"
 
 #include <stdio.h>
 
 /* Paths, "-" for standard output, or null; and what of the files that are there may be replaced. */
 struct record_paths {
-    const char *image, *answers, *trace, *vcd;
+    const char *image, *answers, *trace, *vcd, *html;
     struct replacing replacing;
 };
 
@@ -20,8 +20,8 @@ struct record_paths {
  */
 FILE *record_report(const char *command, const struct record_paths *paths);
 
-/* Writes the files that are asked for, after the report. Returns DONE, or says why not. */
-int record_write(const struct record_paths *paths, FILE *report, const struct session *s, const struct bytes *answers,
-                 const struct bytes *image);
+/* Writes the files that are asked for, after the report; the page is given. Returns DONE, or says why not. */
+int record_write(const struct record_paths *paths, FILE *report, const struct run_outcome *run,
+                 const struct bytes *page);
 
 #endif

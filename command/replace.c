@@ -1,6 +1,7 @@
 #include "replace.h"
 
 #include "gtkwave.h"
+#include "html.h"
 #include "image.h"
 #include "junit.h"
 #include "recorder.h"
@@ -52,6 +53,10 @@ static bool holds(const struct bytes *file, enum holding holding)
         return starts_with(file, LOG_START);
     case HOLDS_JUNIT:
         return starts_with(file, JUNIT_START);
+    case HOLDS_MEMORY:
+        return kind_with_memory(file->length);
+    case HOLDS_PAGE:
+        return starts_with(file, HTML_START);
     }
     return false;
 }
@@ -73,7 +78,8 @@ int replace_allowed(const struct replacing *asked, const char *path, enum holdin
     static const char *const names[] = { "image", "file of answers", "trace", "waveform of this command",
                                          "save file of this command", "file of steps of this command",
                                          "session that was recorded", "log of this command",
-                                         "JUnit file of this command" };
+                                         "JUnit file of this command", "memory of a device",
+                                         "page of this command" };
     struct bytes file = { 0 };
 
     if (holding == HOLDS_IMAGE && asked->own && same_file(asked->own, path))

@@ -13,7 +13,9 @@ enum holding {
     HOLDS_STEPS,
     HOLDS_SESSION,
     HOLDS_LOG,
-    HOLDS_JUNIT
+    HOLDS_JUNIT,
+    HOLDS_MEMORY,
+    HOLDS_PAGE
 };
 
 /* What was asked for: -f, and the image that was read, or null, which may be written over as it was named twice. */

@@ -1,5 +1,6 @@
 #include "report.h"
 
+#include "changes.h"
 #include "copies.h"
 #include "event.h"
 #include "image.h"
@@ -17,8 +18,7 @@ enum { MARGIN = 7, TEXT = 28, SENT = 23, ROW_BYTES = 8, CELL = 32 };
 /* ------------------------------------------------------------------ */
 /* Rows: the events that are shown together                            */
 
-/* The end of the row that starts at an event: a reset, a pulse, whole bytes of slots, or the slots that are left. */
-static size_t row_end(const uint8_t *events, size_t first, size_t end, size_t most_bytes)
+size_t row_end(const uint8_t *events, size_t first, size_t end, size_t most_bytes)
 {
     size_t last = first;
 
@@ -112,6 +112,7 @@ struct report {
     struct copies copies;
     size_t shown; /* of the copies */
     const char *file; /* that the last step is of */
+    struct bytes *starts; /* of transactions, or null */
 };
 
 /* What the transaction that ends at a place changed, under its steps. */
@@ -176,6 +177,16 @@ static void print_note(struct report *r, const struct step *step)
     fputc('\n', r->out);
 }
 
+/* A transaction starts with the reset whose row comes next. */
+static void start_transaction(struct report *r, size_t at)
+{
+    print_changes(r, at + 1);
+    if (r->starts) {
+        fflush(r->out);
+        bytes_add(r->starts, &(long){ ftell(r->out) }, sizeof(long));
+    }
+}
+
 static void print_step(struct report *r, const struct step *step)
 {
     const size_t end = step->first + step->count;
@@ -187,22 +198,24 @@ static void print_step(struct report *r, const struct step *step)
     for (size_t i = step->first, next; i < end; i = next) {
         next = row_end(r->events, i, end, r->bits ? 1 : ROW_BYTES);
         if (r->events[i] == TROUGHIRON_RESET)
-            print_changes(r, i + 1);
+            start_transaction(r, i);
         print_row(r, step, i, next);
         print_copies(r, next);
     }
 }
 
-bool report_steps(FILE *out, const struct session *s, const uint8_t *answers, const struct bytes *image, bool bits)
+/* Returns whether a transaction changed a device. */
+static bool print_steps(FILE *out, const struct run_outcome *run, bool bits, struct bytes *starts)
 {
+    const struct session *const s = run->session;
     struct progress progress = progress_start("events shown", s->events.length);
-    struct report r = { .out = out, .events = s->events.data, .answers = answers, .bits = bits };
+    struct report r = { .out = out, .events = s->events.data, .answers = run->answers, .bits = bits, .starts = starts };
 
-    r.colour = style_wanted(out);
-    r.image = image;
+    r.colour = !starts && style_wanted(out);
+    r.image = &s->image;
     r.file = s->name;
-    r.copies = copies_of(image, &s->events, answers);
-    r.transactions = transactions_of(image, &s->events);
+    r.copies = copies_of(&s->image, &s->events, run->answers);
+    r.transactions = transactions_of(&s->image, &s->events);
     fprintf(out, "%5s  %-*s  %-*s  %s\n", s->unit, TEXT, "step", SENT, "sent", "answered");
     for (size_t i = 0; i < s->count; i++) {
         print_step(&r, &s->steps[i]);
@@ -220,7 +233,7 @@ void report_number(FILE *out, uint64_t number, const char *one, const char *many
     fprintf(out, "%llu %s", (unsigned long long)number, number == 1 ? one : many);
 }
 
-void report_counts(FILE *out, const struct bytes *events, uint64_t copied)
+static void print_counts(FILE *out, const struct bytes *events, uint64_t copied)
 {
     size_t resets = 0, pulses = 0;
 
@@ -240,11 +253,28 @@ void report_counts(FILE *out, const struct bytes *events, uint64_t copied)
     fputs(" copied\n", out);
 }
 
-void report_expectations(FILE *out, const struct session *s)
+static void print_expectations(FILE *out, const struct session *s)
 {
     report_number(out, s->expectations, "expectation", "expectations");
     if (s->failures > 0)
         fprintf(out, ", %zu not met\n", s->failures);
     else
         fputs(", all met\n", out);
+}
+
+/* What the transactions changed can be nothing in all. */
+void report_run(FILE *out, const struct run_outcome *run, bool bits, struct bytes *starts)
+{
+    const struct bytes *const before = &run->session->image;
+    const bool changed = print_steps(out, run, bits, starts);
+
+    fputc('\n', out);
+    print_counts(out, &run->session->events, run->copied);
+    if (run->session->expectations > 0)
+        print_expectations(out, run->session);
+    if (image_differs(before, run->after))
+        fputs("changed in all\n", out);
+    else
+        fputs(changed ? "nothing changed in all\n" : "nothing changed\n", out);
+    report_changes(out, 0, before, run->after);
 }

@@ -1,7 +1,9 @@
 /* troughiron run: a session on the devices of an image. */
 #include "cause.h"
 #include "commands.h"
+#include "html.h"
 #include "image.h"
+#include "json_reports.h"
 #include "outputs.h"
 #include "record.h"
 #include "report.h"
@@ -14,7 +16,7 @@
 struct run {
     struct record_paths paths;
     const char *image_path, *session_path; /* the image is null where the session has a bench of its own */
-    bool raw, bits, quiet;
+    bool raw, bits, quiet, json;
     FILE *report;
     struct bytes image, answers;
     uint64_t copied;
@@ -62,10 +64,23 @@ static int make_room(struct run *r, const char *room)
 /* ------------------------------------------------------------------ */
 /* The run                                                             */
 
+/* An image in the place of a session, which is forgotten after it. */
+static int session_is_there(const struct run *r)
+{
+    struct bytes file = { 0 };
+    const bool asked = !r->image_path && strcmp(r->session_path, "-") != 0;
+    int status = asked ? bytes_read_most(&file, r->session_path, FAR_TOO_LONG) : DONE;
+
+    if (status == DONE && asked && image_refusal(&file) == 0)
+        status = bad_usage("run", "%s is an image; a session expected after it", r->session_path);
+    bytes_free(&file);
+    return status;
+}
+
 static int read_input(struct run *r)
 {
     struct bytes given = { 0 };
-    int status = r->image_path ? image_read(&given, r->image_path) : DONE;
+    int status = r->image_path ? image_read(&given, r->image_path) : session_is_there(r);
 
     if (status == DONE && r->raw)
         status = session_read_raw(&r->session, r->session_path, &given);
@@ -89,21 +104,40 @@ static int run_events(struct run *r)
     return DONE;
 }
 
-/* What every transaction changed, and what they changed in all, which can be nothing. */
-static void report(const struct run *r)
+static struct run_outcome outcome_of(const struct run *r)
 {
-    const struct bytes *const before = &r->session.image;
-    const bool changed = report_steps(r->report, &r->session, r->answers.data, before, r->bits);
+    return (struct run_outcome){ &r->session, r->answers.data, r->copied, &r->image };
+}
 
-    fputc('\n', r->report);
-    report_counts(r->report, &r->session.events, r->copied);
-    if (r->session.expectations > 0)
-        report_expectations(r->report, &r->session);
-    if (image_differs(before, &r->image))
-        fputs("changed in all\n", r->report);
-    else
-        fputs(changed ? "nothing changed in all\n" : "nothing changed\n", r->report);
-    report_changes(r->report, 0, before, &r->image);
+/* For a reader or, with --json, for programs. */
+static int report(const struct run *r)
+{
+    const struct run_outcome outcome = outcome_of(r);
+    struct json json = { 0 };
+
+    if (r->quiet)
+        return DONE;
+    if (!r->json) {
+        report_run(r->report, &outcome, r->bits, NULL);
+        return DONE;
+    }
+    json_start(&json, "run");
+    json_run(&json, &outcome);
+    return json_end(&json, r->report);
+}
+
+static int write_files(const struct run *r)
+{
+    const struct run_outcome outcome = outcome_of(r);
+    struct bytes page = { 0 };
+
+    if (r->paths.html)
+        html_write(&page, &outcome);
+
+    const int status = record_write(&r->paths, r->report, &outcome, &page);
+
+    bytes_free(&page);
+    return status;
 }
 
 static int run_session(struct run *r, const char *room)
@@ -116,11 +150,12 @@ static int run_session(struct run *r, const char *room)
         status = run_events(r);
     if (status != DONE)
         return status;
-    if (!r->quiet)
-        report(r);
+    status = report(r);
+    if (status != DONE)
+        return status;
     if (r->session.failures > 0)
         return report_flush(r->report) == DONE ? session_verdict(&r->session) : BAD;
-    return record_write(&r->paths, r->report, &r->session, &r->answers, &r->image);
+    return write_files(r);
 }
 
 int run_command(struct words *words)
@@ -134,9 +169,11 @@ int run_command(struct words *words)
         { "--answers", &r.paths.answers, NULL },
         { "--write-trace", &r.paths.trace, NULL },
         { "--vcd", &r.paths.vcd, NULL },
+        { "--html", &r.paths.html, NULL },
         { "--room", &room, NULL },
         { "--bits", NULL, &r.bits },
         { "--quiet", NULL, &r.quiet },
+        { "--json", NULL, &r.json },
         { "-f", NULL, &r.paths.replacing.forced },
         { "--force", NULL, &r.paths.replacing.forced },
     };

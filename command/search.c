@@ -3,6 +3,7 @@
 #include "code.h"
 #include "commands.h"
 #include "image.h"
+#include "json.h"
 #include "record.h"
 #include "report.h"
 #include "status.h"
@@ -45,6 +46,31 @@ static void report_codes(FILE *out, const struct found *f, const struct bytes *i
     fputc('\n', out);
 }
 
+static int report_json(FILE *out, const struct found *f, const struct bytes *image)
+{
+    struct json json = { 0 };
+
+    json_start(&json, "search");
+    json_open(&json, "codes", '[');
+    for (size_t i = 0; i < f->passes; i++) {
+        const uint8_t *const code = f->codes + CODE_SIZE * i;
+        char text[CODE_TEXT];
+
+        code_write(text, code);
+        json_open(&json, NULL, '{');
+        json_text(&json, "code", text);
+        json_bytes(&json, "wire", code, CODE_SIZE);
+        json_text(&json, "kind", kind_of_family(code[0])->name);
+        json_number(&json, "device", device_with(image, code));
+        json_close(&json, '}');
+    }
+    json_close(&json, ']');
+    json_number(&json, "passes", f->passes);
+    json_number(&json, "resets", f->resets);
+    json_number(&json, "slots", f->slots);
+    return json_end(&json, out);
+}
+
 /* A step for each pass, named by its code. With no device there is one reset and no pass. */
 static void pass_steps(struct session *s, const struct found *f)
 {
@@ -66,22 +92,23 @@ static int record_search(const struct found *f, struct bytes *image, const struc
 {
     struct session session = { .name = "search", .unit = "pass" };
     struct bytes answers = { 0 };
-    uint64_t copied;
+    uint64_t copied = 0;
 
     pass_steps(&session, f);
     bytes_repeat(&answers, 0, session.events.length);
 
     const uint32_t refusal = troughiron_run(image->data, image->length, session.events.data, session.events.length,
                                             answers.data, answers.length, &copied);
+    const struct run_outcome outcome = { &session, answers.data, copied, image };
     const int status = refusal ? run_refused(&session, image, answers.length, refusal)
-                               : record_write(paths, report, &session, &answers, image);
+                               : record_write(paths, report, &outcome, NULL);
 
     bytes_free(&answers);
     session_free(&session);
     return status;
 }
 
-static int search_image(const char *path, const struct record_paths *paths, FILE *report)
+static int search_image(const char *path, const struct record_paths *paths, FILE *report, bool json)
 {
     struct found found = { 0 };
     struct bytes image = { 0 };
@@ -94,10 +121,12 @@ static int search_image(const char *path, const struct record_paths *paths, FILE
 
         status = refusal ? image_refused(input_name(path), &image, refusal) : DONE;
     }
-    if (status == DONE) {
+    if (status == DONE && json)
+        status = report_json(report, &found, &image);
+    else if (status == DONE)
         report_codes(report, &found, &image);
+    if (status == DONE)
         status = record_search(&found, &image, paths, report);
-    }
     bytes_free(&image);
     return status;
 }
@@ -105,7 +134,9 @@ static int search_image(const char *path, const struct record_paths *paths, FILE
 int search_command(struct words *words)
 {
     struct record_paths paths = { 0 };
+    bool json = false;
     const struct option options[] = {
+        { "--json", NULL, &json },
         { "--answers", &paths.answers, NULL },
         { "--write-trace", &paths.trace, NULL },
         { "--vcd", &paths.vcd, NULL },
@@ -121,5 +152,5 @@ int search_command(struct words *words)
 
     FILE *const report = record_report("search", &paths);
 
-    return report ? search_image(words->list[0], &paths, report) : USAGE;
+    return report ? search_image(words->list[0], &paths, report, json) : USAGE;
 }

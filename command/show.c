@@ -2,6 +2,7 @@
 #include "commands.h"
 #include "fields.h"
 #include "image.h"
+#include "json_reports.h"
 #include "outputs.h"
 #include "report.h"
 #include "status.h"
@@ -99,17 +100,38 @@ static void show_image(FILE *out, const char *path, const struct bytes *image)
     }
 }
 
+static int show_json(const char *path, const struct bytes *image)
+{
+    struct json json = { 0 };
+
+    json_start(&json, "show");
+    json_text(&json, "image", input_name(path));
+    json_number(&json, "bytes", image->length);
+    json_open(&json, "devices", '[');
+    for (size_t i = 0; i < image_count(image); i++) {
+        const struct device device = image_device(image, i);
+
+        json_device(&json, &device);
+    }
+    json_close(&json, ']');
+    return json_end(&json, stdout);
+}
+
 int show_command(struct words *words)
 {
     struct bytes image = { 0 };
-    int status = options_take(words, NULL, 0);
+    bool json = false;
+    const struct option options[] = { { "--json", NULL, &json } };
+    int status = options_take(words, options, sizeof options / sizeof *options);
 
     if (status != DONE)
         return status;
     if (words->count != 1)
         return words_wrong(words, "one image");
     status = image_read(&image, words->list[0]);
-    if (status == DONE) {
+    if (status == DONE && json) {
+        status = show_json(words->list[0], &image);
+    } else if (status == DONE) {
         show_image(stdout, words->list[0], &image);
         status = report_flush(stdout);
     }

@@ -13,16 +13,6 @@ static const char blanks[] = " \t\r\n";
 /* ------------------------------------------------------------------ */
 /* Commands                                                            */
 
-/* The index of "#2", a device of the image, or its number of devices. */
-static size_t device_index(const struct staging *s, const char *word)
-{
-    const size_t count = image_count(&s->live->image);
-    char *end;
-    const unsigned long number = word[0] == '#' ? strtoul(word + 1, &end, 10) : 0;
-
-    return number >= 1 && number <= count && *end == '\0' ? number - 1 : count;
-}
-
 /* A command is a verb and at most one word. */
 struct command {
     char *text; /* that the others point into */
@@ -116,7 +106,7 @@ static size_t verb_of(const char *verb)
 static int check_device(const struct staging *s, const struct command *c)
 {
     const char *const word = c->word ? c->word : "";
-    const size_t count = image_count(&s->live->image), index = device_index(s, word);
+    const size_t count = image_count(&s->live->image), index = image_index(&s->live->image, word);
 
     if (index == count)
         return bad("%s: there is no device '%s'; the image has %zu", c->verb, word, count);
@@ -149,7 +139,7 @@ static int act(struct staging *s, const struct command *c)
     if (strcmp(c->verb, "save") == 0)
         return save(s, c->word);
     if (strcmp(c->verb, "quit") != 0)
-        return verbs[verb_of(c->verb)].act(s, device_index(s, c->word));
+        return verbs[verb_of(c->verb)].act(s, image_index(&s->live->image, c->word));
     s->quit = true;
     return DONE;
 }

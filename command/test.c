@@ -1,5 +1,6 @@
 /* troughiron test: sessions as tests, a line each. */
 #include "commands.h"
+#include "json.h"
 #include "junit.h"
 #include "outputs.h"
 #include "progress.h"
@@ -16,6 +17,7 @@ struct test {
     size_t count, started, ended, printed, failed;
     size_t side_by_side;
     FILE *report;
+    bool json; /* the report is one for programs, which comes at the end */
     struct progress progress;
 };
 
@@ -44,11 +46,13 @@ static void print_log(FILE *out, const struct bytes *log)
 
 static void print_trial(struct test *t, const struct trial *trial)
 {
+    t->failed += trial->status != DONE;
+    if (t->json)
+        return;
     fprintf(t->report, "%s %zu - ", trial->status == DONE ? "ok" : "not ok", t->printed + 1);
     print_name(t->report, trial->path);
     fputc('\n', t->report);
     print_log(t->report, &trial->log);
-    t->failed += trial->status != DONE;
 }
 
 /* In the order of the command line, whichever ends first; and what is printed is there to be seen. */
@@ -80,7 +84,8 @@ static int run_trials(struct test *t)
 {
     int status = DONE;
 
-    fprintf(t->report, "1..%zu\n", t->count);
+    if (!t->json)
+        fprintf(t->report, "1..%zu\n", t->count);
     t->progress = progress_start("sessions tried", t->count);
     while (status == DONE && t->ended < t->count) {
         status = start_more(t);
@@ -102,6 +107,33 @@ static void print_counts(const struct test *t)
         fprintf(t->report, "%zu failed\n", t->failed);
     else
         fputs("all ok\n", t->report);
+}
+
+static void trial_json(struct json *j, struct trial *trial)
+{
+    bytes_repeat(&trial->log, '\0', 1);
+    json_open(j, NULL, '{');
+    json_text(j, "session", trial->path);
+    json_truth(j, "ok", trial->status == DONE);
+    json_number(j, "status", (uint64_t)trial->status);
+    json_number(j, "milliseconds", (uint64_t)(1000 * trial->seconds));
+    json_text(j, "log", (const char *)trial->log.data);
+    json_close(j, '}');
+    trial->log.length--;
+}
+
+static int print_json(const struct test *t)
+{
+    struct json json = { 0 };
+
+    json_start(&json, "test");
+    json_open(&json, "sessions", '[');
+    for (size_t i = 0; i < t->count; i++)
+        trial_json(&json, &t->list[i]);
+    json_close(&json, ']');
+    json_number(&json, "count", t->count);
+    json_number(&json, "failed", t->failed);
+    return json_end(&json, t->report);
 }
 
 static int write_outcome(const struct test *t, const char *path, bool forced)
@@ -157,6 +189,7 @@ int test_command(struct words *words)
     const struct option options[] = {
         { "--junit", &junit, NULL },
         { "-j", &number, NULL },
+        { "--json", NULL, &t.json },
         { "-f", NULL, &forced },
         { "--force", NULL, &forced },
     };
@@ -172,10 +205,12 @@ int test_command(struct words *words)
         t.report = stderr;
     take_sessions(&t, words);
     status = run_trials(&t);
-    if (status == DONE) {
+    if (status == DONE && t.json)
+        status = print_json(&t);
+    else if (status == DONE)
         print_counts(&t);
+    if (status == DONE)
         status = write_outcome(&t, junit, forced);
-    }
     test_free(&t);
     return status == DONE && t.failed > 0 ? BAD : status;
 }

@@ -1,6 +1,6 @@
 #include "transactions.h"
 
-#include "report.h"
+#include "changes.h"
 #include "troughiron.h"
 
 struct transactions transactions_of(const struct bytes *image, const struct bytes *events)
