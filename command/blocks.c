@@ -106,5 +106,8 @@ int read_include(struct reader *r)
         return wrong(r, "include", "a file", *name ? name : NULL);
     if (r->depth == MOST_INCLUDED)
         return wrong_line(r, "include: more than %d texts inside each other", MOST_INCLUDED);
-    return read_text(r, file_name(r->session, r->place->path, name));
+
+    const int status = read_text(r, file_name(r->session, r->place->path, name));
+
+    return status == DONE ? DONE : wrong_line(r, "include: this file cannot be read");
 }

@@ -16,6 +16,7 @@ struct edit {
     const char *path, *output;
     struct replacing replacing;
     struct bytes image; /* as it was read, then as it is to be */
+    struct bytes name;  /* what a refusal of that calls it */
     char **words;       /* after the verb */
     size_t count;
 };
@@ -28,6 +29,8 @@ static int find_device(const struct edit *e, const char *word, size_t *index)
     const size_t count = image_count(&e->image);
 
     *index = image_index(&e->image, word);
+    if (*word != '#')
+        return bad_usage("edit", "a device such as #2 expected, not '%s'", word);
     return *index < count ? DONE : bad("edit: there is no device '%s'; the image has %zu", word, count);
 }
 
@@ -55,7 +58,7 @@ static int add_devices(struct edit *e)
     if (status == DONE && bench_from_input(&bench) > 0)
         status = bad_usage("edit", "add: a memory cannot come from standard input");
     if (status == DONE)
-        status = bench_image(&image, &bench, input_name(e->path));
+        status = bench_image(&image, &bench, (const char *)e->name.data);
     bench_free(&bench);
     if (status == DONE) {
         bytes_free(&e->image);
@@ -75,8 +78,10 @@ static int remove_devices(struct edit *e)
     if (e->count == 0)
         return bad_usage("edit", "remove: a device such as #2 expected");
     for (size_t i = 0; i < e->count; i++) {
-        if (find_device(e, e->words[i], &index) != DONE)
-            return BAD;
+        const int status = find_device(e, e->words[i], &index);
+
+        if (status != DONE)
+            return status;
         removed[index] = true;
     }
     for (size_t i = 0; i < image_count(&e->image); i++)
@@ -142,8 +147,11 @@ static int set_held(struct edit *e)
 
     if (e->count < 2)
         return bad_usage("edit", "set: a device, and what of it to set, expected");
-    if (find_device(e, e->words[0], &index) != DONE)
-        return BAD;
+
+    const int status = find_device(e, e->words[0], &index);
+
+    if (status != DONE)
+        return status;
 
     const struct device device = image_device(&e->image, index);
     const char *const what = e->words[1];
@@ -186,8 +194,11 @@ static int take_memory(struct edit *e)
         return bad_usage("edit", "take: -o is for an image that is changed");
     if (e->count != 2)
         return bad_usage("edit", "take: a device and a file expected");
-    if (find_device(e, e->words[0], &index) != DONE)
-        return BAD;
+
+    const int status = find_device(e, e->words[0], &index);
+
+    if (status != DONE)
+        return status;
 
     const struct device device = image_device(&e->image, index);
 
@@ -200,7 +211,7 @@ static int write_image(const struct edit *e)
     const uint32_t refusal = image_refusal(&e->image);
 
     if (refusal)
-        return image_refused(input_name(e->path), &e->image, refusal);
+        return image_refused((const char *)e->name.data, &e->image, refusal);
     return write_file(e, e->output ? e->output : e->path, HOLDS_IMAGE, e->image.data, e->image.length);
 }
 
@@ -244,9 +255,12 @@ int edit_command(struct words *words)
     e.replacing.own = strcmp(e.path, "-") == 0 ? NULL : e.path;
     e.words = words->list + 2;
     e.count = words->count - 2;
+    bytes_print(&e.name, "%s, as it would be", input_name(e.path));
+    bytes_repeat(&e.name, '\0', 1);
     status = image_read(&e.image, e.path);
     if (status == DONE)
         status = edit_image(&e, words->list[1]);
     bytes_free(&e.image);
+    bytes_free(&e.name);
     return status;
 }

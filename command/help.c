@@ -94,7 +94,7 @@ static const char run_help[] =
     "  expect #2 memory 0026 41 37                     expect #2 scratchpad 06 41 37\n"
     "  expect #2 data 0005 3C   expect #2 status 00 FF ..\n"
     "  expect #2 TA 0026        expect #2 E/S 87       expect #2 AA no PF      expect #2 unchanged\n"
-    "Where one is not met, the run goes on to its end, no file is written, and the status is 5.\n"
+    "Where one is not met, the run goes on to its end, no image is written, and the status is 5.\n"
     "\n"
     "  -o, --output FILE    write the image as the devices are left\n"
     "  --trace FILE         take raw events, a byte each, in place of a session\n"

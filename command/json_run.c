@@ -53,10 +53,10 @@ static void add_steps(struct json *j, const struct run_outcome *run)
         json_text(j, "text", step->text);
         if (step->count > 0)
             add_events(j, run, step);
-        if (step->note) {
+        if (step->note)
             json_text(j, "note", step->note);
-            json_truth(j, "failed", step->failed);
-        }
+        if (step->expects)
+            json_truth(j, "met", !step->failed);
         json_close(j, '}');
     }
     json_close(j, ']');

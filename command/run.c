@@ -126,11 +126,14 @@ static int report(const struct run *r)
     return json_end(&json, r->report);
 }
 
-static int write_files(const struct run *r)
+/* Where an expectation is not met, what shows the run is written, and the image is not. */
+static int write_files(struct run *r)
 {
     const struct run_outcome outcome = outcome_of(r);
     struct bytes page = { 0 };
 
+    if (r->session.failures > 0)
+        r->paths.image = NULL;
     if (r->paths.html)
         html_write(&page, &outcome);
 
@@ -153,9 +156,8 @@ static int run_session(struct run *r, const char *room)
     status = report(r);
     if (status != DONE)
         return status;
-    if (r->session.failures > 0)
-        return report_flush(r->report) == DONE ? session_verdict(&r->session) : BAD;
-    return write_files(r);
+    status = write_files(r);
+    return status == DONE ? session_verdict(&r->session) : status;
 }
 
 int run_command(struct words *words)

@@ -17,7 +17,8 @@ struct step {
     size_t asked;        /* how many of them come before those that are there to be answered */
     bool written;        /* its slots are written by the master, and not there to be read */
     char *note;          /* of a step without events: what the report says of it, or null */
-    bool failed;         /* an expectation that is not met */
+    bool expects;        /* it is an expectation */
+    bool failed;         /* one that is not met */
 };
 
 struct session {

@@ -27,6 +27,7 @@ int conclude(struct reader *r, bool met, const char *expected, const char *got)
     else
         bytes_print(&note, "expected %s, got %s", expected, got);
     step->note = (char *)note.data;
+    step->expects = true;
     step->failed = !met && !r->sofar.refused;
     r->session->expectations++;
     r->session->failures += step->failed;

@@ -77,7 +77,7 @@ def _load() -> ctypes.CDLL:
     for path in _candidates():
         try:
             return _typed(ctypes.CDLL(path))
-        except OSError:
+        except (OSError, AttributeError):
             continue
     raise ImportError("libtroughiron.so is not found: 'make shared' builds it, TROUGHIRON_LIBRARY names it")
 
