@@ -165,6 +165,10 @@ module _ (state : LineState) (kind : Kind) (body : List ℕ) (ranged : lineState
       let q = both known numbers (p .1) in
       (p .0, q .0, q .1)
 
+  -- the body has its kind's size
+  pub sized : length body ≡ bodySize kind
+  sized = eqb-true (length body) (bodySize kind) (parts .0)
+
   -- a slot, a reset and a pulse keep a line state in range, with the body that they leave
   pub step-in-range : (level : Bool)
       → lineStateInRange (stateAfterSlotAsIs state kind body level) kind (bodyAfterSlotAsIs state kind body level) ≡ true
