@@ -104,12 +104,15 @@ pub next-speed : (r : RomStage) (kind : Kind) (overdrive : Bool) (register left 
 unfolding romSpeed commandSpeed romRange speedKnown
 next-speed Waiting kind overdrive register left value body level h k = k
 next-speed Command kind overdrive register left value body level h k =
-    has (hasOverdrive kind) (cond (eqb value 0x3C) true (cond (eqb value 0x69) true overdrive)) overdrive k
+    has (hasOverdrive kind) (eqb value 0x3C) (eqb value 0x69) overdrive k
   where
-    has : (t x y : Bool) → (not y || t) ≡ true → (not (cond t x y) || t) ≡ true
-    has true true y k = refl
-    has true false y k = refl
-    has false x y k = k
+    has : (t a b y : Bool) → (not y || t) ≡ true → (not (cond a (cond t true y) (cond b (cond t true y) y)) || t) ≡ true
+    has true true b y k = refl
+    has true false true y k = refl
+    has true false false y k = k
+    has false true b y k = k
+    has false false true y k = k
+    has false false false y k = k
 next-speed (Read byte) kind overdrive register left value body level h k = k
 next-speed (Match at) kind overdrive register left value body level h k = k
 next-speed (Search at) kind overdrive register left value body level h k = k

@@ -90,7 +90,8 @@ romNext (OverdriveMatch at before) kind overdrive value body level =
 -- device at its speed.
 unfoldable pub commandSpeed : ℕ → Kind → Bool → Bool
 commandSpeed value kind overdrive =
-    cond (hasOverdrive kind) (cond (eqb value 0x3C) true (cond (eqb value 0x69) true overdrive)) overdrive
+    cond (eqb value 0x3C) (cond (hasOverdrive kind) true overdrive)
+    (cond (eqb value 0x69) (cond (hasOverdrive kind) true overdrive) overdrive)
 
 -- A device that fails the match after 69h is at overdrive only if it was so before the command. Nothing else in the ROM
 -- stage changes the speed.

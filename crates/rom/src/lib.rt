@@ -4,6 +4,8 @@ use line::RomStage;
 use line::Stage;
 use line::Transfer;
 ghost use mathlib.Core.Path.{_≡_};
+ghost use mathlib.Core.Bool.{true, cond};
+ghost use Rattle.kind.specs.Kind.{hasOverdrive};
 ghost use Rattle.rom.specs.Rom.{romRange, readByte, matchBit, searchBit, addressed, romCommand, afterRead};
 ghost use Rattle.rom.specs.Rom.{afterMatch, afterSearch, romNext};
 ghost use Rattle.rom.specs.Rom.{overdriveMatchBit, overdriveCommand, afterOverdriveMatch, romSpeed};
@@ -189,16 +191,24 @@ pub fn next(
     }
 }
 
+// A device that has overdrive goes to it; any other stays at its speed.
+fn overdrive_after(kind: Kind, overdrive: bool) -> bool
+    ensures { λ r. ⌜ r ≡ cond (hasOverdrive kind) true overdrive ⌝ }
+{
+    if kind::has_overdrive(kind) {
+        true
+    } else {
+        overdrive
+    }
+}
+
 // A DS1996 is at overdrive after overdrive skip and overdrive match; any other command leaves a device at its speed.
 fn command_speed(value: u8, kind: Kind, overdrive: bool) -> bool
     ensures { λ r. ⌜ r ≡ commandSpeed value kind overdrive ⌝ }
 {
-    if !kind::has_overdrive(kind) {
-        return overdrive;
-    }
     match value {
-        0x3C => true,
-        0x69 => true,
+        0x3C => overdrive_after(kind, overdrive),
+        0x69 => overdrive_after(kind, overdrive),
         _ => overdrive,
     }
 }
