@@ -179,7 +179,7 @@ run-admitted image {trace} answers lines ok w room lent =
     let short = w .short in
     not-refused image trace answers lines (record {
       image-accepted = ok;
-      trace-good = rw (le-ltb 32768 (length trace) (omega arith)) (w .low (λ byte. ltb 3 byte) refl refl refl);
+      trace-good = rw (le-ltb 32768 (length trace) (omega arith)) (w .low (λ byte. ltb 6 byte) refl refl refl);
       reset-first = w .begins;
       pulses-good = rw (w .low (λ byte. eqb byte 3) refl refl refl);
       answers-room = room;

@@ -139,8 +139,8 @@ none-low : (s : Kind → List ℕ → LineState) (sent : Bool) (ms : List Member
     → someLow (Slot sent) (standsBy s ms) ≡ false
 unfolding someLow pullsLow answersLow
 none-low s sent [] f z = refl
-none-low s sent (active d ∷ ms) f z = or-false _ _ _ (f d (z .0)) (none-low s sent ms f (z .1))
-none-low s sent (inactive d ∷ ms) f z = or-false _ _ _ (waiting-sends (d .kind) (d .body)) (none-low s sent ms f (z .1))
+none-low s sent (active d ∷ ms) f z = or-false (hears (Slot sent) (takenState (inState (s (d .kind) (d .body)) d))) _ _ (f d (z .0)) (none-low s sent ms f (z .1))
+none-low s sent (inactive d ∷ ms) f z = or-false (hears (Slot sent) (takenState (inState waitingState d))) _ _ (waiting-sends (d .kind) (d .body)) (none-low s sent ms f (z .1))
 
 sent-alone : (sent : Bool) → not (not sent || false) ≡ sent
 sent-alone true = refl
