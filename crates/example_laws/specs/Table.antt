@@ -324,9 +324,9 @@ begunBeforeAReset =
     -- It is refused with no device too, and so is a pulse that comes first where every device is a DS1982.
     ∷ refused noDevice begunInARead 11
     ∷ refused blankDs1982 (3 ∷ skipRom) 11
-    -- Cause 11 comes before 6, a pulse on a device that is no DS1982, and after 5, a byte over 3.
+    -- Cause 11 comes before 6, a pulse on a device that is no DS1982, and after 5, a byte over 6.
     ∷ refused blankDs1992 (3 ∷ skipRom) 11
-    ∷ refused blankDs1992 (4 ∷ skipRom) 5
+    ∷ refused blankDs1992 (7 ∷ skipRom) 5
     -- After a reset the pulse on a DS1992 is a 6.
     ∷ refused blankDs1992 (2 ∷ 3 ∷ []) 6
     ∷ []
