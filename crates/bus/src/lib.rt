@@ -8,7 +8,7 @@ use image::ACCEPTED;
 use kind::Kind;
 ghost use mathlib.Core.Path.{_≡_};
 ghost use Prim.Native.Nat.{_≤_};
-ghost use mathlib.Core.Bool.{true, not, _||_};
+ghost use mathlib.Core.Bool.{true, not, cond, _||_};
 ghost use lib.ListN.{length};
 ghost use lib.Dec.{eqb, ltb};
 ghost use Rattle.image.specs.Image.{countOf, kindAt};
@@ -143,16 +143,23 @@ fn place_of(image: &[u8], i: usize) -> Place
     }
 }
 
+// This is a number in a slot in which the master sends 1, and 0 in one in which it sends 0.
+fn where_sent(sent: bool, n: usize) -> usize
+    ensures { λ r. ⌜ r ≡ cond sent n 0 ⌝ }
+{
+    if sent { n } else { 0 }
+}
+
 // All of n devices are asked for the level of an event but of a slot in which the master sends 0: its level does not
 // depend on what they send.
 fn asked(byte: u8, n: usize) -> usize
     ensures { λ r. ⌜ r ≡ askedOf (eventOf byte) n ⌝ }
 {
     match event_of(byte) {
-        Event::Slot(sent) => { if sent { n } else { 0 } },
+        Event::Slot(sent) => where_sent(sent, n),
         Event::Reset => n,
         Event::Pulse => n,
-        Event::OverdriveSlot(sent) => { if sent { n } else { 0 } },
+        Event::OverdriveSlot(sent) => where_sent(sent, n),
         Event::OverdriveReset => n,
     }
 }
@@ -172,7 +179,7 @@ fn scan_of(byte: u8, high: bool, looked: usize) -> Scan
     match event_of(byte) {
         Event::Slot(sent) => Scan {
             level: sent & high,
-            looked: if sent { looked } else { 0 },
+            looked: where_sent(sent, looked),
         },
         Event::Reset => Scan {
             level: high,
@@ -184,7 +191,7 @@ fn scan_of(byte: u8, high: bool, looked: usize) -> Scan
         },
         Event::OverdriveSlot(sent) => Scan {
             level: sent & high,
-            looked: if sent { looked } else { 0 },
+            looked: where_sent(sent, looked),
         },
         Event::OverdriveReset => Scan {
             level: high,
