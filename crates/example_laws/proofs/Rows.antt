@@ -44,8 +44,8 @@ found = (
   record { accepted = refl; codes-are = refl; trace-is = refl; events-are = refl; ended = refl },
 )
 
--- the runs of a DS1996, each by itself, as its body is long
-overdrive-copy : Right overdriveCopy
+-- the runs of a DS1996, a few at a time, as its body is long
+matches : Right overdriveCopy × Right overdriveMatched
 unfolding bitOf bitAt atLevel withBit putBit shiftIn crcBit crcBits crcByte crcFrom registrationCheck kindOf bodySize memorySize isSram isEprom isUnknown isFlat hasOverdrive speedKnown packedAt
     someBelow equalBytes firstCause editionKnown batteryMalformed entryMalformed imageMalformed imageTooLong bodyMisplaced codeRefused someCodeRefused codeRepeated someCodeRepeated imageCauses imageRefusal transferSends
     addressed romCommand overdriveCommand commandSpeed romSpeed afterRead afterMatch afterOverdriveMatch romNext romRange memoryCommand memoryNext stageNext stageSpeed speedAfterSlot memoryWrite stageWrite memoryReset stageReset memoryPulse stagePulse
@@ -58,9 +58,9 @@ unfolding bitOf bitAt atLevel withBit putBit shiftIn crcBit crcBits crcByte crcF
     writeCommand cutAddress commandCrc sendByte readLatch afterCrc endsSpan afterByte writeLatch afterEpromData pageProtected programmedByte programmedBody
     sendStored nextWritePass epromCommand epromNext epromPulse epromProgram epromRange someByte badTrace noFirstReset badPulse noRunRoom runCauses runRefusal
     loadAddress
-overdrive-copy = refl
+matches = (refl, refl)
 
-overdrive-matched : Right overdriveMatched
+mismatches : Right mismatchFromRegular × Right mismatchFromOverdrive
 unfolding bitOf bitAt atLevel withBit putBit shiftIn crcBit crcBits crcByte crcFrom registrationCheck kindOf bodySize memorySize isSram isEprom isUnknown isFlat hasOverdrive speedKnown packedAt
     someBelow equalBytes firstCause editionKnown batteryMalformed entryMalformed imageMalformed imageTooLong bodyMisplaced codeRefused someCodeRefused codeRepeated someCodeRepeated imageCauses imageRefusal transferSends
     addressed romCommand overdriveCommand commandSpeed romSpeed afterRead afterMatch afterOverdriveMatch romNext romRange memoryCommand memoryNext stageNext stageSpeed speedAfterSlot memoryWrite stageWrite memoryReset stageReset memoryPulse stagePulse
@@ -73,9 +73,9 @@ unfolding bitOf bitAt atLevel withBit putBit shiftIn crcBit crcBits crcByte crcF
     writeCommand cutAddress commandCrc sendByte readLatch afterCrc endsSpan afterByte writeLatch afterEpromData pageProtected programmedByte programmedBody
     sendStored nextWritePass epromCommand epromNext epromPulse epromProgram epromRange someByte badTrace noFirstReset badPulse noRunRoom runCauses runRefusal
     loadAddress
-overdrive-matched = refl
+mismatches = (refl, refl)
 
-mismatch-from-regular : Right mismatchFromRegular
+falls : Right fallenBack × Right cutByOverdriveReset × Right cutByRegularReset
 unfolding bitOf bitAt atLevel withBit putBit shiftIn crcBit crcBits crcByte crcFrom registrationCheck kindOf bodySize memorySize isSram isEprom isUnknown isFlat hasOverdrive speedKnown packedAt
     someBelow equalBytes firstCause editionKnown batteryMalformed entryMalformed imageMalformed imageTooLong bodyMisplaced codeRefused someCodeRefused codeRepeated someCodeRepeated imageCauses imageRefusal transferSends
     addressed romCommand overdriveCommand commandSpeed romSpeed afterRead afterMatch afterOverdriveMatch romNext romRange memoryCommand memoryNext stageNext stageSpeed speedAfterSlot memoryWrite stageWrite memoryReset stageReset memoryPulse stagePulse
@@ -88,9 +88,9 @@ unfolding bitOf bitAt atLevel withBit putBit shiftIn crcBit crcBits crcByte crcF
     writeCommand cutAddress commandCrc sendByte readLatch afterCrc endsSpan afterByte writeLatch afterEpromData pageProtected programmedByte programmedBody
     sendStored nextWritePass epromCommand epromNext epromPulse epromProgram epromRange someByte badTrace noFirstReset badPulse noRunRoom runCauses runRefusal
     loadAddress
-mismatch-from-regular = refl
+falls = (refl, refl, refl)
 
-mismatch-from-overdrive : Right mismatchFromOverdrive
+others : Right sideBySide × Right readLastOf8192 × Right flatAtOverdrive
 unfolding bitOf bitAt atLevel withBit putBit shiftIn crcBit crcBits crcByte crcFrom registrationCheck kindOf bodySize memorySize isSram isEprom isUnknown isFlat hasOverdrive speedKnown packedAt
     someBelow equalBytes firstCause editionKnown batteryMalformed entryMalformed imageMalformed imageTooLong bodyMisplaced codeRefused someCodeRefused codeRepeated someCodeRepeated imageCauses imageRefusal transferSends
     addressed romCommand overdriveCommand commandSpeed romSpeed afterRead afterMatch afterOverdriveMatch romNext romRange memoryCommand memoryNext stageNext stageSpeed speedAfterSlot memoryWrite stageWrite memoryReset stageReset memoryPulse stagePulse
@@ -103,97 +103,7 @@ unfolding bitOf bitAt atLevel withBit putBit shiftIn crcBit crcBits crcByte crcF
     writeCommand cutAddress commandCrc sendByte readLatch afterCrc endsSpan afterByte writeLatch afterEpromData pageProtected programmedByte programmedBody
     sendStored nextWritePass epromCommand epromNext epromPulse epromProgram epromRange someByte badTrace noFirstReset badPulse noRunRoom runCauses runRefusal
     loadAddress
-mismatch-from-overdrive = refl
-
-fallen-back : Right fallenBack
-unfolding bitOf bitAt atLevel withBit putBit shiftIn crcBit crcBits crcByte crcFrom registrationCheck kindOf bodySize memorySize isSram isEprom isUnknown isFlat hasOverdrive speedKnown packedAt
-    someBelow equalBytes firstCause editionKnown batteryMalformed entryMalformed imageMalformed imageTooLong bodyMisplaced codeRefused someCodeRefused codeRepeated someCodeRepeated imageCauses imageRefusal transferSends
-    addressed romCommand overdriveCommand commandSpeed romSpeed afterRead afterMatch afterOverdriveMatch romNext romRange memoryCommand memoryNext stageNext stageSpeed speedAfterSlot memoryWrite stageWrite memoryReset stageReset memoryPulse stagePulse
-    memoryProgram stageProgram sendsAsIs transferAfterSlot stateAfterSlotAsIs bodyAfterSlotAsIs bodyAfterResetAsIs stateAfterPulseAsIs bodyAfterPulseAsIs memoryRange stageRange stateInRange orWaiting
-    sendsOf stateAfterSlot bodyAfterSlot bodyAfterReset stateAfterPulse bodyAfterPulse eventOf takenState hears answersLow masterHigh heardState heardBody unheardState heardCopied pullsLow someLow levelOf nextState nextBody
-    nextDevice busStepAt busStep levelByte withAnswer runTrace devicesFrom waitingDevices bodiesOf leftByRun runAt runOf loadTarget beginByte
-    storeBit writeBit afterDataBit endData afterRegister afterScratchpad patternSame afterPattern copyLength copyBytes copyToMemory acceptCopy
-    bytesCopied patternCopy sramCopy memoryCopy stageCopy copyInSlotAsIs copyInSlot bytesInSlot copiedIn copiedByAll copiedInTrace
-    patternWrite readMemory sramCommand sramNext sramWrite sramReset dataRange sramRange fieldStart fieldLength storedByte fieldRead readCommand
-    writeCommand cutAddress commandCrc sendByte readLatch afterCrc endsSpan afterByte writeLatch afterEpromData pageProtected programmedByte programmedBody
-    sendStored nextWritePass epromCommand epromNext epromPulse epromProgram epromRange someByte badTrace noFirstReset badPulse noRunRoom runCauses runRefusal
-    loadAddress
-fallen-back = refl
-
-cut-by-overdrive-reset : Right cutByOverdriveReset
-unfolding bitOf bitAt atLevel withBit putBit shiftIn crcBit crcBits crcByte crcFrom registrationCheck kindOf bodySize memorySize isSram isEprom isUnknown isFlat hasOverdrive speedKnown packedAt
-    someBelow equalBytes firstCause editionKnown batteryMalformed entryMalformed imageMalformed imageTooLong bodyMisplaced codeRefused someCodeRefused codeRepeated someCodeRepeated imageCauses imageRefusal transferSends
-    addressed romCommand overdriveCommand commandSpeed romSpeed afterRead afterMatch afterOverdriveMatch romNext romRange memoryCommand memoryNext stageNext stageSpeed speedAfterSlot memoryWrite stageWrite memoryReset stageReset memoryPulse stagePulse
-    memoryProgram stageProgram sendsAsIs transferAfterSlot stateAfterSlotAsIs bodyAfterSlotAsIs bodyAfterResetAsIs stateAfterPulseAsIs bodyAfterPulseAsIs memoryRange stageRange stateInRange orWaiting
-    sendsOf stateAfterSlot bodyAfterSlot bodyAfterReset stateAfterPulse bodyAfterPulse eventOf takenState hears answersLow masterHigh heardState heardBody unheardState heardCopied pullsLow someLow levelOf nextState nextBody
-    nextDevice busStepAt busStep levelByte withAnswer runTrace devicesFrom waitingDevices bodiesOf leftByRun runAt runOf loadTarget beginByte
-    storeBit writeBit afterDataBit endData afterRegister afterScratchpad patternSame afterPattern copyLength copyBytes copyToMemory acceptCopy
-    bytesCopied patternCopy sramCopy memoryCopy stageCopy copyInSlotAsIs copyInSlot bytesInSlot copiedIn copiedByAll copiedInTrace
-    patternWrite readMemory sramCommand sramNext sramWrite sramReset dataRange sramRange fieldStart fieldLength storedByte fieldRead readCommand
-    writeCommand cutAddress commandCrc sendByte readLatch afterCrc endsSpan afterByte writeLatch afterEpromData pageProtected programmedByte programmedBody
-    sendStored nextWritePass epromCommand epromNext epromPulse epromProgram epromRange someByte badTrace noFirstReset badPulse noRunRoom runCauses runRefusal
-    loadAddress
-cut-by-overdrive-reset = refl
-
-cut-by-regular-reset : Right cutByRegularReset
-unfolding bitOf bitAt atLevel withBit putBit shiftIn crcBit crcBits crcByte crcFrom registrationCheck kindOf bodySize memorySize isSram isEprom isUnknown isFlat hasOverdrive speedKnown packedAt
-    someBelow equalBytes firstCause editionKnown batteryMalformed entryMalformed imageMalformed imageTooLong bodyMisplaced codeRefused someCodeRefused codeRepeated someCodeRepeated imageCauses imageRefusal transferSends
-    addressed romCommand overdriveCommand commandSpeed romSpeed afterRead afterMatch afterOverdriveMatch romNext romRange memoryCommand memoryNext stageNext stageSpeed speedAfterSlot memoryWrite stageWrite memoryReset stageReset memoryPulse stagePulse
-    memoryProgram stageProgram sendsAsIs transferAfterSlot stateAfterSlotAsIs bodyAfterSlotAsIs bodyAfterResetAsIs stateAfterPulseAsIs bodyAfterPulseAsIs memoryRange stageRange stateInRange orWaiting
-    sendsOf stateAfterSlot bodyAfterSlot bodyAfterReset stateAfterPulse bodyAfterPulse eventOf takenState hears answersLow masterHigh heardState heardBody unheardState heardCopied pullsLow someLow levelOf nextState nextBody
-    nextDevice busStepAt busStep levelByte withAnswer runTrace devicesFrom waitingDevices bodiesOf leftByRun runAt runOf loadTarget beginByte
-    storeBit writeBit afterDataBit endData afterRegister afterScratchpad patternSame afterPattern copyLength copyBytes copyToMemory acceptCopy
-    bytesCopied patternCopy sramCopy memoryCopy stageCopy copyInSlotAsIs copyInSlot bytesInSlot copiedIn copiedByAll copiedInTrace
-    patternWrite readMemory sramCommand sramNext sramWrite sramReset dataRange sramRange fieldStart fieldLength storedByte fieldRead readCommand
-    writeCommand cutAddress commandCrc sendByte readLatch afterCrc endsSpan afterByte writeLatch afterEpromData pageProtected programmedByte programmedBody
-    sendStored nextWritePass epromCommand epromNext epromPulse epromProgram epromRange someByte badTrace noFirstReset badPulse noRunRoom runCauses runRefusal
-    loadAddress
-cut-by-regular-reset = refl
-
-side-by-side : Right sideBySide
-unfolding bitOf bitAt atLevel withBit putBit shiftIn crcBit crcBits crcByte crcFrom registrationCheck kindOf bodySize memorySize isSram isEprom isUnknown isFlat hasOverdrive speedKnown packedAt
-    someBelow equalBytes firstCause editionKnown batteryMalformed entryMalformed imageMalformed imageTooLong bodyMisplaced codeRefused someCodeRefused codeRepeated someCodeRepeated imageCauses imageRefusal transferSends
-    addressed romCommand overdriveCommand commandSpeed romSpeed afterRead afterMatch afterOverdriveMatch romNext romRange memoryCommand memoryNext stageNext stageSpeed speedAfterSlot memoryWrite stageWrite memoryReset stageReset memoryPulse stagePulse
-    memoryProgram stageProgram sendsAsIs transferAfterSlot stateAfterSlotAsIs bodyAfterSlotAsIs bodyAfterResetAsIs stateAfterPulseAsIs bodyAfterPulseAsIs memoryRange stageRange stateInRange orWaiting
-    sendsOf stateAfterSlot bodyAfterSlot bodyAfterReset stateAfterPulse bodyAfterPulse eventOf takenState hears answersLow masterHigh heardState heardBody unheardState heardCopied pullsLow someLow levelOf nextState nextBody
-    nextDevice busStepAt busStep levelByte withAnswer runTrace devicesFrom waitingDevices bodiesOf leftByRun runAt runOf loadTarget beginByte
-    storeBit writeBit afterDataBit endData afterRegister afterScratchpad patternSame afterPattern copyLength copyBytes copyToMemory acceptCopy
-    bytesCopied patternCopy sramCopy memoryCopy stageCopy copyInSlotAsIs copyInSlot bytesInSlot copiedIn copiedByAll copiedInTrace
-    patternWrite readMemory sramCommand sramNext sramWrite sramReset dataRange sramRange fieldStart fieldLength storedByte fieldRead readCommand
-    writeCommand cutAddress commandCrc sendByte readLatch afterCrc endsSpan afterByte writeLatch afterEpromData pageProtected programmedByte programmedBody
-    sendStored nextWritePass epromCommand epromNext epromPulse epromProgram epromRange someByte badTrace noFirstReset badPulse noRunRoom runCauses runRefusal
-    loadAddress
-side-by-side = refl
-
-read-last-of8192 : Right readLastOf8192
-unfolding bitOf bitAt atLevel withBit putBit shiftIn crcBit crcBits crcByte crcFrom registrationCheck kindOf bodySize memorySize isSram isEprom isUnknown isFlat hasOverdrive speedKnown packedAt
-    someBelow equalBytes firstCause editionKnown batteryMalformed entryMalformed imageMalformed imageTooLong bodyMisplaced codeRefused someCodeRefused codeRepeated someCodeRepeated imageCauses imageRefusal transferSends
-    addressed romCommand overdriveCommand commandSpeed romSpeed afterRead afterMatch afterOverdriveMatch romNext romRange memoryCommand memoryNext stageNext stageSpeed speedAfterSlot memoryWrite stageWrite memoryReset stageReset memoryPulse stagePulse
-    memoryProgram stageProgram sendsAsIs transferAfterSlot stateAfterSlotAsIs bodyAfterSlotAsIs bodyAfterResetAsIs stateAfterPulseAsIs bodyAfterPulseAsIs memoryRange stageRange stateInRange orWaiting
-    sendsOf stateAfterSlot bodyAfterSlot bodyAfterReset stateAfterPulse bodyAfterPulse eventOf takenState hears answersLow masterHigh heardState heardBody unheardState heardCopied pullsLow someLow levelOf nextState nextBody
-    nextDevice busStepAt busStep levelByte withAnswer runTrace devicesFrom waitingDevices bodiesOf leftByRun runAt runOf loadTarget beginByte
-    storeBit writeBit afterDataBit endData afterRegister afterScratchpad patternSame afterPattern copyLength copyBytes copyToMemory acceptCopy
-    bytesCopied patternCopy sramCopy memoryCopy stageCopy copyInSlotAsIs copyInSlot bytesInSlot copiedIn copiedByAll copiedInTrace
-    patternWrite readMemory sramCommand sramNext sramWrite sramReset dataRange sramRange fieldStart fieldLength storedByte fieldRead readCommand
-    writeCommand cutAddress commandCrc sendByte readLatch afterCrc endsSpan afterByte writeLatch afterEpromData pageProtected programmedByte programmedBody
-    sendStored nextWritePass epromCommand epromNext epromPulse epromProgram epromRange someByte badTrace noFirstReset badPulse noRunRoom runCauses runRefusal
-    loadAddress
-read-last-of8192 = refl
-
-flat-at-overdrive : Right flatAtOverdrive
-unfolding bitOf bitAt atLevel withBit putBit shiftIn crcBit crcBits crcByte crcFrom registrationCheck kindOf bodySize memorySize isSram isEprom isUnknown isFlat hasOverdrive speedKnown packedAt
-    someBelow equalBytes firstCause editionKnown batteryMalformed entryMalformed imageMalformed imageTooLong bodyMisplaced codeRefused someCodeRefused codeRepeated someCodeRepeated imageCauses imageRefusal transferSends
-    addressed romCommand overdriveCommand commandSpeed romSpeed afterRead afterMatch afterOverdriveMatch romNext romRange memoryCommand memoryNext stageNext stageSpeed speedAfterSlot memoryWrite stageWrite memoryReset stageReset memoryPulse stagePulse
-    memoryProgram stageProgram sendsAsIs transferAfterSlot stateAfterSlotAsIs bodyAfterSlotAsIs bodyAfterResetAsIs stateAfterPulseAsIs bodyAfterPulseAsIs memoryRange stageRange stateInRange orWaiting
-    sendsOf stateAfterSlot bodyAfterSlot bodyAfterReset stateAfterPulse bodyAfterPulse eventOf takenState hears answersLow masterHigh heardState heardBody unheardState heardCopied pullsLow someLow levelOf nextState nextBody
-    nextDevice busStepAt busStep levelByte withAnswer runTrace devicesFrom waitingDevices bodiesOf leftByRun runAt runOf loadTarget beginByte
-    storeBit writeBit afterDataBit endData afterRegister afterScratchpad patternSame afterPattern copyLength copyBytes copyToMemory acceptCopy
-    bytesCopied patternCopy sramCopy memoryCopy stageCopy copyInSlotAsIs copyInSlot bytesInSlot copiedIn copiedByAll copiedInTrace
-    patternWrite readMemory sramCommand sramNext sramWrite sramReset dataRange sramRange fieldStart fieldLength storedByte fieldRead readCommand
-    writeCommand cutAddress commandCrc sendByte readLatch afterCrc endsSpan afterByte writeLatch afterEpromData pageProtected programmedByte programmedBody
-    sendStored nextWritePass epromCommand epromNext epromPulse epromProgram epromRange someByte badTrace noFirstReset badPulse noRunRoom runCauses runRefusal
-    loadAddress
-flat-at-overdrive = refl
+others = (refl, refl, refl)
 
 -- every run
 pub rows : Every table
@@ -216,7 +126,6 @@ rows =
     and refl and refl and refl and refl and refl and refl and refl and refl and refl and refl and refl
     and refl and refl
     and found .1 and refl and refl and refl and refl and refl and refl and refl and refl and refl
-    and overdrive-copy and overdrive-matched and mismatch-from-regular and mismatch-from-overdrive and fallen-back
-    and cut-by-overdrive-reset and cut-by-regular-reset and side-by-side and read-last-of8192 and flat-at-overdrive
+    and matches .0 and matches .1 and mismatches .0 and mismatches .1 and falls .0 and falls .1 and falls .2 and others .0 and others .1 and others .2
     and refl and refl and refl and refl and refl and refl and refl and refl
     and none
