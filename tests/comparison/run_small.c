@@ -643,59 +643,6 @@ static int programming_slots(struct run_case *c, size_t number)
 /* ------------------------------------------------------------------ */
 /* Cuts                                                                */
 
-enum {
-    ENDS_THERE,
-    RESET_ENDS,
-    RESET_THERE,
-    ZERO_THERE,
-    ONE_THERE,
-    PULSE_THERE,
-    LEFT_OUT,
-    WAYS_TO_CUT
-};
-
-static void insert(struct trace *t, size_t place, enum event event)
-{
-    for (size_t i = t->length; i > place; i--)
-        t->events[i] = t->events[i - 1];
-    t->events[place] = (uint8_t)event;
-    t->length++;
-}
-
-static void leave_out(struct trace *t, size_t place)
-{
-    if (place == t->length)
-        return;
-    t->length--;
-    for (size_t i = place; i < t->length; i++)
-        t->events[i] = t->events[i + 1];
-}
-
-static void cut(struct trace *t, size_t way, size_t place)
-{
-    switch (way) {
-    case RESET_THERE:
-        insert(t, place, RESET);
-        break;
-    case ZERO_THERE:
-        insert(t, place, WRITE_ZERO);
-        break;
-    case ONE_THERE:
-        insert(t, place, WRITE_ONE);
-        break;
-    case PULSE_THERE:
-        insert(t, place, PULSE);
-        break;
-    case LEFT_OUT:
-        leave_out(t, place);
-        break;
-    default:
-        t->length = place;
-        if (way == RESET_ENDS)
-            trace_event(t, RESET);
-    }
-}
-
 /*
  * A typical session that ends, is reset, gets an event too many or lacks one
  * at every place.
@@ -709,7 +656,7 @@ static int cuts(struct run_case *c, enum kind kind, size_t batteries,
     bench_of_one_with(c, kind, batteries);
     typical_session(c, kind);
     place = digit(&number, c->trace.length + 1);
-    cut(&c->trace, way, place);
+    trace_cut(&c->trace, way, place);
     if (c->trace.length > 0 && c->trace.events[0] != RESET)
         c->expected = 11;
     else if (way == PULSE_THERE && kind != DS1982)

@@ -84,6 +84,51 @@ void trace_search(struct trace *t, const uint8_t *code)
 }
 
 /* ------------------------------------------------------------------ */
+/* Cutting                                                             */
+
+static void insert(struct trace *t, size_t place, enum event event)
+{
+    for (size_t i = t->length; i > place; i--)
+        t->events[i] = t->events[i - 1];
+    t->events[place] = (uint8_t)event;
+    t->length++;
+}
+
+static void leave_out(struct trace *t, size_t place)
+{
+    if (place == t->length)
+        return;
+    t->length--;
+    for (size_t i = place; i < t->length; i++)
+        t->events[i] = t->events[i + 1];
+}
+
+void trace_cut(struct trace *t, enum cut way, size_t place)
+{
+    switch (way) {
+    case RESET_THERE:
+        insert(t, place, RESET);
+        break;
+    case ZERO_THERE:
+        insert(t, place, WRITE_ZERO);
+        break;
+    case ONE_THERE:
+        insert(t, place, WRITE_ONE);
+        break;
+    case PULSE_THERE:
+        insert(t, place, PULSE);
+        break;
+    case LEFT_OUT:
+        leave_out(t, place);
+        break;
+    default:
+        t->length = place;
+        if (way == RESET_ENDS)
+            trace_event(t, RESET);
+    }
+}
+
+/* ------------------------------------------------------------------ */
 /* Showing                                                             */
 
 const char *event_name(uint8_t event)
@@ -110,7 +155,7 @@ static size_t row_end(const struct trace *t, size_t start)
 }
 
 /* Room for eight levels and their byte. */
-enum { COLUMN = 16 };
+enum { COLUMN_ROOM = 16 };
 
 /*
  * Levels in the order they came, and the byte where there are eight.  What is
@@ -126,7 +171,7 @@ static void write_levels(char *text, const uint8_t *levels, size_t count)
     }
     text[count] = '\0';
     if (count == 8)
-        snprintf(text + 8, COLUMN - 8, " %02X", byte);
+        snprintf(text + 8, COLUMN_ROOM - 8, " %02X", byte);
 }
 
 static void write_sent(char *text, const uint8_t *events, size_t count)
@@ -138,19 +183,19 @@ static void write_sent(char *text, const uint8_t *events, size_t count)
     else if (*events == PULSE)
         strcpy(text, "pulse");
     else
-        snprintf(text, COLUMN, "byte %02X", *events);
+        snprintf(text, COLUMN_ROOM, "byte %02X", *events);
 }
 
 static void show_row(FILE *out, const struct trace *t, size_t start,
-                     size_t end, const uint8_t *const answers[2])
+                     size_t end, const struct column columns[COLUMNS])
 {
-    const int both = answers[0] && answers[1];
-    char sent[COLUMN], given[2][COLUMN] = { "-", "-" };
+    const int both = columns[0].answers && columns[1].answers;
+    char sent[COLUMN_ROOM], given[COLUMNS][COLUMN_ROOM] = { "-", "-" };
 
     write_sent(sent, t->events + start, end - start);
-    for (int i = 0; i < 2; i++)
-        if (answers[i])
-            write_levels(given[i], answers[i] + start, end - start);
+    for (int i = 0; i < COLUMNS; i++)
+        if (columns[i].answers)
+            write_levels(given[i], columns[i].answers + start, end - start);
     fprintf(out, "  %6zu  %-11s  %-11s  %s%s\n", start, sent, given[0],
             given[1], both && strcmp(given[0], given[1]) ? "  <--" : "");
 }
@@ -164,18 +209,18 @@ static size_t count_rows(const struct trace *t)
     return rows;
 }
 
-void trace_show(FILE *out, const struct trace *t, const uint8_t *library,
-                const uint8_t *second)
+void trace_show(FILE *out, const struct trace *t,
+                const struct column columns[COLUMNS])
 {
     enum { FIRST_ROWS = 20, LAST_ROWS = 100 };
-    const uint8_t *const answers[2] = { library, second };
     const size_t rows = count_rows(t);
     size_t row = 0;
 
-    fprintf(out, "   event  sent         library      second\n");
+    fprintf(out, "   event  sent         %-11s  %s\n", columns[0].name,
+            columns[1].name);
     for (size_t i = 0; i < t->length; i = row_end(t, i), row++) {
         if (row < FIRST_ROWS || row + LAST_ROWS >= rows)
-            show_row(out, t, i, row_end(t, i), answers);
+            show_row(out, t, i, row_end(t, i), columns);
         else if (row == FIRST_ROWS)
             fprintf(out, "     ...  %zu rows left out\n",
                     rows - FIRST_ROWS - LAST_ROWS);

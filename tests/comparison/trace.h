@@ -63,14 +63,36 @@ void trace_search(struct trace *t, const uint8_t *code);
 /* What Search ROM sends after its command to come to a code. */
 void trace_search_path(struct trace *t, const uint8_t *code);
 
+/* A trace ends at a place, or gets an event there, or lacks the one there. */
+enum cut {
+    ENDS_THERE,
+    RESET_ENDS,
+    RESET_THERE,
+    ZERO_THERE,
+    ONE_THERE,
+    PULSE_THERE,
+    LEFT_OUT,
+    WAYS_TO_CUT
+};
+
+void trace_cut(struct trace *t, enum cut way, size_t place);
+
 /* The name of an event byte. */
 const char *event_name(uint8_t event);
 
+/* Answers to a trace, shown beside it; there may be none. */
+struct column {
+    const char *name;
+    const uint8_t *answers; /* or NULL */
+};
+
+enum { COLUMNS = 2 };
+
 /*
- * Shows a trace, a byte's worth of slots in a line, beside the answers of both
- * programs; answers may be NULL.  The middle of a long trace is left out.
+ * Shows a trace, a byte's worth of slots in a line, beside two columns of
+ * answers.  The middle of a long trace is left out.
  */
-void trace_show(FILE *out, const struct trace *t, const uint8_t *library,
-                const uint8_t *second);
+void trace_show(FILE *out, const struct trace *t,
+                const struct column columns[COLUMNS]);
 
 #endif
