@@ -49,6 +49,6 @@ void run_generated_case(struct run_case *c, uint64_t seed, uint64_t number)
     c->answers = room_by_dice(&dice, c->trace.length);
     c->expected = ANY_NUMBER;
     c->null = dice_once_in(&dice, 2);
-    if (dice_once_in(&dice, 6))
+    if (dice_once_in(&dice, c->bench.length > MOST_IMAGE_BYTES ? 2 : 6))
         some_damage(&dice, c);
 }

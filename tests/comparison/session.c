@@ -10,36 +10,73 @@ void session_start(struct session *s, struct dice *dice, struct run_case *c)
     s->trace = &c->trace;
     s->bench = &c->bench;
     s->pulses = bench_takes_pulses(&c->bench) || dice_once_in(dice, 40);
+    s->overdrive = 0;
     s->start = 0;
+    s->fast = s->lapse = SIZE_MAX;
     s->learned = 0;
     c->trace.length = 0;
 }
 
+void session_finish(struct session *s)
+{
+    struct trace *const t = s->trace;
+
+    if (s->fast < t->length)
+        trace_hurry(t, s->fast);
+    if (s->lapse <= t->length && t->length < MOST_EVENTS)
+        trace_cut(t, dice_once_in(s->dice, 2) ? ONE_THERE : ZERO_THERE,
+                  s->lapse);
+    s->fast = s->lapse = SIZE_MAX;
+}
+
+void session_speed_up(struct session *s)
+{
+    s->overdrive = 1;
+    if (s->fast == SIZE_MAX)
+        s->fast = s->trace->length;
+}
+
+void session_slow_down(struct session *s)
+{
+    s->overdrive = 0;
+}
+
 int session_reset(struct session *s)
 {
+    session_finish(s);
     if (s->trace->length == MOST_EVENTS)
         return 0;
+    if (dice_once_in(s->dice, 6))
+        session_slow_down(s);
     s->start = s->trace->length;
-    trace_event(s->trace, RESET);
+    trace_event(s->trace, s->overdrive ? OVERDRIVE_RESET : RESET);
+    if (s->overdrive)
+        s->fast = s->trace->length;
     return 1;
 }
 
 /*
  * The reset of the present transaction is run as well, for what a reset does
- * to a byte cut short, and again as the first event of the next part, where it
- * does nothing.  A part that is refused teaches nothing.
+ * to a byte cut short.  A part ends with one at regular speed, which is again
+ * the first event of the next part, where it does nothing.  A part that is
+ * refused teaches nothing.
  */
 const uint8_t *session_learn(struct session *s, size_t device)
 {
+    const size_t length = s->bench->length;
     uint64_t copied;
 
     if (s->learned == 0)
-        memcpy(s->image, s->bench->bytes, s->bench->length);
-    second_run(s->image, s->bench->length, s->trace->events + s->learned,
+        memcpy(s->image, s->bench->bytes, length);
+    memcpy(s->now, s->image, length);
+    second_run(s->now, length, s->trace->events + s->learned,
                s->start + 1 - s->learned, s->answers, sizeof s->answers,
                &copied);
-    s->learned = s->start;
-    return s->image + s->bench->bodies[device];
+    if (s->trace->events[s->start] == RESET) {
+        memcpy(s->image, s->now, length);
+        s->learned = s->start;
+    }
+    return s->now + s->bench->bodies[device];
 }
 
 static uint64_t any(struct session *s)
@@ -115,7 +152,7 @@ static uint16_t some_address(struct session *s, size_t bytes)
 }
 
 /* ------------------------------------------------------------------ */
-/* ROM commands                                              */
+/* ROM commands                                                        */
 
 /* A device's code, or any where there is no device. */
 static void code_of(struct session *s, size_t device, uint8_t *code)
@@ -145,8 +182,35 @@ static void address_by_code(struct session *s, size_t device, int search)
     }
 }
 
+static int has_overdrive(const struct session *s, size_t device)
+{
+    return s->bench->count > 0 && s->bench->kinds[device] == DS1996;
+}
+
+/* Brings DS1996 to overdrive, all or one, with a wrong code at times. */
+static void overdrive_command(struct session *s, size_t device)
+{
+    uint8_t code[CODE_BYTES];
+
+    if (once_in(s, 2)) {
+        trace_byte(s->trace, OVERDRIVE_SKIP_ROM);
+        session_speed_up(s);
+        return;
+    }
+    code_of(s, device, code);
+    if (once_in(s, 6))
+        code[below(s, CODE_BYTES)] ^= (uint8_t)(1u << below(s, 8));
+    trace_byte(s->trace, OVERDRIVE_MATCH_ROM);
+    session_speed_up(s);
+    trace_bytes(s->trace, code, CODE_BYTES);
+}
+
 static void rom_command(struct session *s, size_t device)
 {
+    if (once_in(s, has_overdrive(s, device) ? 3 : 60)) {
+        overdrive_command(s, device);
+        return;
+    }
     switch (below(s, 16)) {
     case 0:
         trace_byte(s->trace, (uint8_t)any(s));
@@ -172,7 +236,7 @@ static void rom_command(struct session *s, size_t device)
 }
 
 /* ------------------------------------------------------------------ */
-/* memory commands of a DS1992 or DS1993                     */
+/* Memory commands of a DS1992, DS1993 or DS1996                       */
 
 /* 0 to 300 bits: whole bytes, to the end of the page, past it, or any. */
 static size_t some_data_bits(struct session *s, uint16_t address)
@@ -266,7 +330,7 @@ static void use_sram(struct session *s, size_t device)
 }
 
 /* ------------------------------------------------------------------ */
-/* memory commands of a DS1982                               */
+/* Memory commands of a DS1982                                         */
 
 static void send_pulse(struct session *s)
 {
@@ -334,7 +398,7 @@ static void use_eprom(struct session *s)
 }
 
 /* ------------------------------------------------------------------ */
-/* transactions                                              */
+/* Transactions                                                        */
 
 /* Any command, and anything after it. */
 static void use_anything(struct session *s)
@@ -356,17 +420,29 @@ static void memory_command(struct session *s, size_t device)
         use_sram(s, device);
 }
 
+/* At times a transaction is cut anywhere, or not all of it is at overdrive. */
+static void spoil_transaction(struct session *s)
+{
+    const size_t events = s->trace->length - s->start;
+
+    if (once_in(s, 8))
+        s->trace->length = s->start + 1 + below(s, events);
+    if (s->fast != SIZE_MAX && once_in(s, 20))
+        s->fast += below(s, 80);
+    if (s->fast < s->trace->length && once_in(s, 8))
+        s->lapse = once_in(s, 2) ? s->trace->length
+                                 : s->fast + below(s, events);
+}
+
 void session_transaction(struct session *s, size_t device)
 {
+    if (!has_overdrive(s, device) && !once_in(s, 4))
+        session_slow_down(s);
     if (!session_reset(s))
         return;
     rom_command(s, device);
     memory_command(s, device);
-    if (once_in(s, 8)) {
-        const size_t events = s->trace->length - s->start;
-
-        s->trace->length = s->start + 1 + below(s, events);
-    }
+    spoil_transaction(s);
 }
 
 size_t session_device(struct session *s, size_t favourite)
@@ -408,10 +484,11 @@ static void search_all(struct session *s)
 void session_disturb(struct session *s)
 {
     struct trace *const t = s->trace;
-    const size_t kinds = s->pulses ? 4 : 3;
     const size_t place = below(s, t->length + 1);
-    const uint8_t event = (uint8_t)below(s, kinds);
+    uint8_t event = (uint8_t)below(s, NO_EVENT);
 
+    if (event == PULSE && !s->pulses)
+        event = RESET;
     if (place == t->length || once_in(s, 2)) {
         if (t->length == MOST_EVENTS)
             return;
@@ -429,6 +506,7 @@ void some_session(struct dice *dice, struct run_case *c)
     if (dice_once_in(dice, 100))
         search_all(&s);
     transactions(&s);
+    session_finish(&s);
     if (dice_once_in(dice, 8))
         for (size_t i = dice_below(dice, 6); i > 0; i--)
             session_disturb(&s);

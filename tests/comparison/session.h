@@ -20,17 +20,33 @@ struct session {
     struct trace *trace;
     const struct bench *bench;
     int pulses;     /* whether any are sent */
+    int overdrive;  /* whether the master takes devices to be at overdrive */
     size_t start;   /* of the present transaction: its reset */
+    size_t fast;    /* from where on it is to be at overdrive; SIZE_MAX: not */
+    size_t lapse;   /* where it gets a regular slot then; SIZE_MAX: nowhere */
     size_t learned; /* events that have been run; the next is a reset */
     uint8_t image[BENCH_ROOM]; /* as these events leave it */
+    uint8_t now[BENCH_ROOM];   /* as the reset of the transaction leaves it */
     uint8_t answers[TRACE_ROOM];
 };
 
 /* A session without events, whose trace is that of a case. */
 void session_start(struct session *s, struct dice *dice, struct run_case *c);
 
-/* The reset of the next transaction; 0 when there is no room for it. */
+/*
+ * The reset of the next transaction, at the speed that devices are taken to be
+ * at; 0 when there is no room for it.
+ */
 int session_reset(struct session *s);
+
+/* A command has just been sent after which the devices are at overdrive. */
+void session_speed_up(struct session *s);
+
+/* All that comes next is at regular speed, from the next reset on. */
+void session_slow_down(struct session *s);
+
+/* Gives the present transaction its speed; to be done before it is used. */
+void session_finish(struct session *s);
 
 /* The body of a device as the present transaction's reset leaves it. */
 const uint8_t *session_learn(struct session *s, size_t device);

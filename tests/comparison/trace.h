@@ -6,7 +6,16 @@
 #include <stdint.h>
 #include <stdio.h>
 
-enum event { WRITE_ZERO, WRITE_ONE, RESET, PULSE };
+enum event {
+    WRITE_ZERO,
+    WRITE_ONE,
+    RESET,
+    PULSE,
+    OVERDRIVE_ZERO,
+    OVERDRIVE_ONE,
+    OVERDRIVE_RESET,
+    NO_EVENT /* the first byte that is none */
+};
 
 enum {
     MOST_EVENTS = 32768,
@@ -18,10 +27,12 @@ enum {
     READ_ROM = 0x33,
     MATCH_ROM = 0x55,
     SKIP_ROM = 0xCC,
-    SEARCH_ROM = 0xF0
+    SEARCH_ROM = 0xF0,
+    OVERDRIVE_SKIP_ROM = 0x3C, /* of a DS1996, as the next */
+    OVERDRIVE_MATCH_ROM = 0x69
 };
 
-/* Memory commands of a DS1992 or DS1993. */
+/* Memory commands of a DS1992, DS1993 or DS1996. */
 enum {
     WRITE_SCRATCHPAD = 0x0F,
     COPY_SCRATCHPAD = 0x55,
@@ -63,6 +74,13 @@ void trace_search(struct trace *t, const uint8_t *code);
 /* What Search ROM sends after its command to come to a code. */
 void trace_search_path(struct trace *t, const uint8_t *code);
 
+/* A reset and Overdrive Skip ROM; or Match, whose code is at overdrive. */
+void trace_overdrive_skip(struct trace *t);
+void trace_overdrive_match(struct trace *t, const uint8_t *code);
+
+/* Turns slots and resets from a place on into those at overdrive. */
+void trace_hurry(struct trace *t, size_t from);
+
 /* A trace ends at a place, or gets an event there, or lacks the one there. */
 enum cut {
     ENDS_THERE,
@@ -71,6 +89,9 @@ enum cut {
     ZERO_THERE,
     ONE_THERE,
     PULSE_THERE,
+    OVERDRIVE_ZERO_THERE,
+    OVERDRIVE_ONE_THERE,
+    OVERDRIVE_RESET_THERE,
     LEFT_OUT,
     WAYS_TO_CUT
 };
