@@ -143,16 +143,14 @@ int image_refused(const char *name, const struct bytes *image, uint32_t refusal)
 enum { WHERE = 256 };
 static void write_where(char where[WHERE], const struct session *s, size_t event)
 {
-    size_t i = 0;
+    const struct step *const step = step_of(s, event);
 
-    while (i + 1 < s->count && s->steps[i + 1].first <= event)
-        i++;
     if (s->raw)
         snprintf(where, WHERE, "byte %zu", event);
-    else if (s->steps[i].file == s->name)
-        snprintf(where, WHERE, "%s %zu", s->unit, s->steps[i].line);
+    else if (step->file == s->name)
+        snprintf(where, WHERE, "%s %zu", s->unit, step->line);
     else
-        snprintf(where, WHERE, "%s %zu of %s", s->unit, s->steps[i].line, s->steps[i].file);
+        snprintf(where, WHERE, "%s %zu of %s", s->unit, step->line, step->file);
 }
 
 /* The place of the first event of at least a number, or the number of events. */

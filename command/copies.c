@@ -1,7 +1,6 @@
 #include "copies.h"
 
-#include "event.h"
-#include "image.h"
+#include "alone.h"
 #include "transactions.h"
 #include "troughiron.h"
 
@@ -9,47 +8,15 @@
 #include <string.h>
 
 /*
- * The library tells the sum of a run. What one device copied is the sum of a run with that device alone: where the
- * events are the levels that the line had, it receives what it received among the others, as a device that listens
- * takes the level. That it accepted a copy is seen as a master sees it: it answers zeros until a reset, longer than it
- * has bits to read.
+ * The library tells the sum of a run. What one device copied is the sum of a run with that device alone. That it
+ * accepted a copy is seen as a master sees it: it answers zeros until a reset, longer than it has bits to read.
  */
-enum { ALONE = TABLE + ENTRY_SIZE };
-
 struct search {
     const struct bytes *events;
     const uint8_t *levels; /* that the line answered */
     struct copies *found;
-    struct bytes image, trace, answers; /* of a device alone */
+    struct alone alone;
 };
-
-/* The device as it is in an image, with its entry, and nothing else. */
-static void put_alone(struct search *s, const struct bytes *image, size_t index)
-{
-    const struct device device = image_device(image, index);
-    uint8_t table[ALONE] = { 1, image->data[1] };
-
-    memcpy(table + TABLE, image->data + TABLE + ENTRY_SIZE * index, ENTRY_SIZE);
-    table[TABLE + 2] = ALONE;
-    table[TABLE + 3] = 0;
-    s->image.length = 0;
-    bytes_add(&s->image, table, ALONE);
-    bytes_add(&s->image, device.body, kind_body_size(device.kind));
-}
-
-/* The events from a reset on as a device received them, and then so many read slots. */
-static void put_trace(struct search *s, size_t first, size_t count, size_t reads)
-{
-    s->trace.length = 0;
-    for (size_t i = first; i < first + count; i++) {
-        const uint8_t event = s->events->data[i];
-
-        bytes_repeat(&s->trace, is_slot(event) ? s->levels[i] : event, 1);
-    }
-    bytes_repeat(&s->trace, TROUGHIRON_WRITE_ONE, reads);
-    s->answers.length = 0;
-    bytes_repeat(&s->answers, 1, s->trace.length);
-}
 
 /* Whether the device accepts a copy in the first events from a reset on, and what that does. */
 static bool accepts(struct search *s, const struct bytes *image, size_t first, size_t count, struct copy *copy)
@@ -58,14 +25,14 @@ static bool accepts(struct search *s, const struct bytes *image, size_t first, s
 
     if (count + reads > TROUGHIRON_MOST_EVENTS)
         return false;
-    put_alone(s, image, copy->device);
-    put_trace(s, first, count, reads);
-    if (troughiron_run(s->image.data, s->image.length, s->trace.data, s->trace.length, s->answers.data,
-                       s->answers.length, &copy->bytes))
+    alone_put(&s->alone, image, copy->device);
+    alone_receive(&s->alone, s->events->data + first, s->levels + first, count);
+    alone_slots(&s->alone, TROUGHIRON_WRITE_ONE, reads);
+    if (!alone_run(&s->alone, &copy->bytes))
         return false;
     copy->event = first + count - 1;
-    copy->address = s->image.data[ALONE + TA1] + 256u * s->image.data[ALONE + TA2];
-    return !memchr(s->answers.data + count, 1, reads);
+    copy->address = s->alone.image.data[ALONE + TA1] + 256u * s->alone.image.data[ALONE + TA2];
+    return !memchr(s->alone.answers.data + count, 1, reads);
 }
 
 static void add(struct copies *c, struct copy copy)
@@ -137,9 +104,7 @@ struct copies copies_of(const struct bytes *image, const struct bytes *events, c
     if (found.count > 1)
         qsort(found.list, found.count, sizeof *found.list, by_event);
     transactions_free(&t);
-    bytes_free(&s.image);
-    bytes_free(&s.trace);
-    bytes_free(&s.answers);
+    alone_free(&s.alone);
     return found;
 }
 
