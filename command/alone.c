@@ -22,12 +22,12 @@ void alone_put(struct alone *a, const struct bytes *image, size_t index)
 void alone_receive(struct alone *a, const uint8_t *events, const uint8_t *levels, size_t count)
 {
     for (size_t i = 0; i < count; i++)
-        bytes_repeat(&a->trace, is_slot(events[i]) ? levels[i] : events[i], 1);
+        bytes_repeat(&a->trace, is_slot(events[i]) ? slot_of(levels[i], is_overdrive(events[i])) : events[i], 1);
 }
 
-void alone_slots(struct alone *a, uint8_t slot, size_t count)
+void alone_add(struct alone *a, uint8_t event, size_t count)
 {
-    bytes_repeat(&a->trace, slot, count);
+    bytes_repeat(&a->trace, event, count);
 }
 
 bool alone_run(struct alone *a, uint64_t *copied)

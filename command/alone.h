@@ -22,8 +22,8 @@ void alone_put(struct alone *a, const struct bytes *image, size_t index);
 /* Adds events as it received them, of which the first is a reset, where the line answered so. */
 void alone_receive(struct alone *a, const uint8_t *events, const uint8_t *levels, size_t count);
 
-/* Adds slots of one kind. */
-void alone_slots(struct alone *a, uint8_t slot, size_t count);
+/* Adds one event so many times. */
+void alone_add(struct alone *a, uint8_t event, size_t count);
 
 /* Runs the trace; copied is what the library tells of it. Returns false where the library refuses it. */
 bool alone_run(struct alone *a, uint64_t *copied);

@@ -1,4 +1,4 @@
-/* What is run or judged: an image and a session, or a session that names its bench, or an image and raw events. */
+/* What is run: an image and a session, or a session that names its bench, or an image and raw events. */
 #ifndef INPUTS_H
 #define INPUTS_H
 

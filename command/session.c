@@ -93,7 +93,9 @@ static const char *raw_text(uint8_t event)
 {
     if (is_slot(event))
         return "slots";
-    return event == TROUGHIRON_RESET ? "reset" : event == TROUGHIRON_PULSE ? "pulse" : "unknown";
+    if (is_reset(event))
+        return is_overdrive(event) ? "overdrive reset" : "reset";
+    return event == TROUGHIRON_PULSE ? "pulse" : "unknown";
 }
 
 int session_read_raw(struct session *s, const char *path, const struct bytes *image)
