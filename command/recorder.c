@@ -48,7 +48,7 @@ static void log_events(FILE *log, const uint8_t *events, const uint8_t *answers,
             fprintf(log, " %02X", byte);
             i += 8;
         } else {
-            fprintf(log, is_slot(events[i]) ? " %db" : " pulse", answers[i]);
+            fprintf(log, is_slot(events[i]) ? " %db" : is_reset(events[i]) ? " reset" : " pulse", answers[i]);
             i++;
         }
     }
@@ -156,11 +156,11 @@ static void hear_event(void *self, uint8_t event, uint8_t answer)
 {
     struct recorder *const r = self;
 
-    if (is_reset(event))
+    if (is_regular_reset(event))
         log_transaction(r);
     if (r->events.length == TROUGHIRON_MOST_EVENTS)
         end_run_at(r, r->transaction);
-    if (is_reset(event))
+    if (is_regular_reset(event))
         r->transaction = r->events.length;
     bytes_repeat(&r->events, event, 1);
     bytes_repeat(&r->answers, answer, 1);
