@@ -40,8 +40,8 @@ eventOf byte =
 unfoldable pub takenState : Device → LineState
 takenState d = orWaiting (d .state) (d .kind) (d .body)
 
--- Document 02, item 9: a device hears a slot that comes at its own speed. All devices hear a regular reset, and only those
--- at overdrive an overdrive reset. A program pulse has no speed.
+-- Document 02, item 9: a device hears a slot that comes at its own speed. All devices hear a regular reset, and only
+-- those at overdrive an overdrive reset. A program pulse has no speed.
 unfoldable pub hears : Event → LineState → Bool
 hears (Slot sent) state = not (state .overdrive)
 hears Reset state = true
@@ -49,7 +49,8 @@ hears Pulse state = true
 hears (OverdriveSlot sent) state = state .overdrive
 hears OverdriveReset state = state .overdrive
 
--- A device that hears an event answers low in a slot in which it sends a 0, and in a reset, where it shows its presence.
+-- A device that hears an event answers low in a slot in which it sends a 0, and in a reset, where it shows its
+-- presence.
 unfoldable pub answersLow : Event → Device → Bool
 answersLow (Slot sent) d = not (sendsOf (d .state) (d .kind) (d .body))
 answersLow Reset d = true
@@ -73,9 +74,9 @@ masterHigh Pulse = true
 masterHigh (OverdriveSlot sent) = sent
 masterHigh OverdriveReset = true
 
--- The level of a slot is 0 if the master sends 0 or any device pulls low in that slot, else 1. The level of a reset is 0
--- if a device hears it, else 1, and that of a pulse is 1. An event that no device hears has the level that it has on an
--- empty bench.
+-- The level of a slot is 0 if the master sends 0 or any device pulls low in that slot, else 1. The level of a reset is
+-- 0 if a device hears it, else 1, and that of a pulse is 1. An event that no device hears has the level that it has on
+-- an empty bench.
 unfoldable pub levelOf : Event → List Device → Bool
 levelOf event ds = not (not (masterHigh event) || someLow event ds)
 
@@ -121,8 +122,8 @@ heardBody Pulse level d = bodyAfterPulse (d .state) (d .kind) (d .body)
 heardBody (OverdriveSlot sent) level d = bodyAfterSlot (d .state) (d .kind) (d .body) level
 heardBody OverdriveReset level d = bodyAfterReset (d .state) (d .kind) (d .body)
 
--- For a device that does not hear an event nothing changes, but that a regular slot makes a device at overdrive wait for a
--- regular reset, as one that waits at regular speed does (our own ruling).
+-- For a device that does not hear an event nothing changes, but that a regular slot makes a device at overdrive wait
+-- for a regular reset, as one that waits at regular speed does (our own ruling).
 unfoldable pub unheardState : Event → LineState → LineState
 unheardState (Slot sent) state = waitingState
 unheardState Reset state = state

@@ -12,7 +12,8 @@ use Rattle.kind.specs.declared.Kind.the-variants.{Unknown}
 use Rattle.kind.specs.Kind.{bodySize}
 use Rattle.image.specs.Image.{countOf, kindAt, offsetAt}
 use Rattle.device.specs.declared.LineState.{LineState}
-use Rattle.device.specs.Device.{waitingState, resetAt, resetState, waits, sendsAsIs, stateAfterSlotAsIs, bodyAfterSlotAsIs}
+use Rattle.device.specs.Device.{waitingState, resetAt, resetState, waits, sendsAsIs, stateAfterSlotAsIs}
+use Rattle.device.specs.Device.{bodyAfterSlotAsIs}
 use Rattle.device.specs.Device.{bodyAfterResetAsIs, stateAfterPulseAsIs, bodyAfterPulseAsIs, bytesInSlotAsIs}
 use Rattle.bus.specs.declared.Event.{Event}
 use Rattle.bus.specs.declared.Event.the-variants.{Slot, Reset, Pulse, OverdriveSlot, OverdriveReset}

@@ -1,5 +1,5 @@
--- Document 01, 'Refusals in order', and document 02, items 6 and 9, are stated here: the causes 5, 11, 6 and 7, each over
--- the whole input. They come after the causes that the image alone can give.
+-- Document 01, 'Refusals in order', and document 02, items 6 and 9, are stated here: the causes 5, 11, 6 and 7, each
+-- over the whole input. They come after the causes that the image alone can give.
 use Prim.Native.Nat.{ℕ}
 use mathlib.Core.Bool.{Bool, true, false, not, _&&_, _||_}
 use mathlib.Core.List.{List, [], _∷_, _++_}

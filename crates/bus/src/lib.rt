@@ -78,8 +78,8 @@ const MOST_COPIED: u64 = 18446744073709551615;
 
 // ---- one device
 
-// Each byte of a trace is an event: 0 and 1 are slots, 2 is a reset, 4, 5 and 6 are the same at overdrive, and any other
-// counts as the program pulse. A run refuses bytes over 6 before it comes here.
+// Each byte of a trace is an event: 0 and 1 are slots, 2 is a reset, 4, 5 and 6 are the same at overdrive, and any
+// other counts as the program pulse. A run refuses bytes over 6 before it comes here.
 fn event_of(byte: u8) -> Event
     ensures { λ r. ⌜ r ≡ eventOf byte ⌝ }
 {
@@ -108,8 +108,8 @@ fn hears(byte: u8, state: LineState) -> bool
     }
 }
 
-// In an event a device leaves the line high if it does not hear it, or if it answers with a 1: in a slot it answers with
-// what it sends, and in a reset with its presence, a 0.
+// In an event a device leaves the line high if it does not hear it, or if it answers with a 1: in a slot it answers
+// with what it sends, and in a reset with its presence, a 0.
 fn leaves_high(byte: u8, state: LineState) -> bool
     ensures { λ r. ⌜ r ≡ leavesHigh (eventOf byte) state ⌝ }
 {
@@ -245,9 +245,9 @@ fn heard_pulse(image: &mut [u8], i: usize, state: LineState) -> SlotTurn
     SlotTurn { next, copied: 0 }
 }
 
-// This is device i's part in a regular slot at a level. A device at overdrive does not hear it and then waits at regular
-// speed. Inside a transfer a slot only shifts the register, and a device that waits has no part in it: a body is looked
-// for only in the last slot of a transfer.
+// This is device i's part in a regular slot at a level. A device at overdrive does not hear it and then waits at
+// regular speed. Inside a transfer a slot only shifts the register, and a device that waits has no part in it: a body
+// is looked for only in the last slot of a transfer.
 fn slot(image: &mut [u8], i: usize, state: LineState, level: bool) -> SlotTurn
     ensures { λ r. ⌜ (r ≡ slotTurn (turnState (now (image .entry)) i state 1 level)
         (turnCopied (now (image .entry)) i state 1 level))

@@ -42,8 +42,8 @@ unfoldable pub stageNext : Stage → Kind → Bool → ℕ → List ℕ → Bool
 stageNext (Rom r) kind overdrive value body level = romNext r kind overdrive value body level
 stageNext (Memory m) kind overdrive value body level = memoryNext m kind value body
 
--- The device is then at overdrive where this is true; `overdrive` tells whether it was so in the transfer. A memory stage
--- does not change the speed (document 02, item 9).
+-- The device is then at overdrive where this is true; `overdrive` tells whether it was so in the transfer. A memory
+-- stage does not change the speed (document 02, item 9).
 unfoldable pub stageSpeed : Stage → Kind → Bool → ℕ → List ℕ → Bool → Bool
 stageSpeed (Rom r) kind overdrive value body level = romSpeed r kind overdrive value body level
 stageSpeed (Memory m) kind overdrive value body level = overdrive
@@ -112,8 +112,8 @@ regularState transfer = lineState transfer false
 abbrev pub waitingState : LineState
 waitingState = regularState waiting
 
--- A reset puts each device at the ROM command: a regular one at regular speed, and an overdrive reset at overdrive, where
--- `overdrive` is true.
+-- A reset puts each device at the ROM command: a regular one at regular speed, and an overdrive reset at overdrive,
+-- where `overdrive` is true.
 abbrev pub resetAt : Bool → LineState
 resetAt overdrive = lineState atRomCommand overdrive
 
@@ -187,8 +187,8 @@ unfoldable pub stageRange : Stage → Kind → Bool → ℕ → ℕ → Bool
 stageRange (Rom r) kind overdrive register left = romRange r overdrive register left
 stageRange (Memory m) kind overdrive register left = not (isFlat kind) && memoryRange m kind left
 
--- A line state is in range if the body has its kind's size, the speed is one of its kind, and the transfer's numbers are
--- in their stage's range.
+-- A line state is in range if the body has its kind's size, the speed is one of its kind, and the transfer's numbers
+-- are in their stage's range.
 unfoldable pub lineStateInRange : LineState → Kind → List ℕ → Bool
 lineStateInRange state kind body =
     eqb (length body) (bodySize kind)
@@ -197,8 +197,8 @@ lineStateInRange state kind body =
 
 -- Document 01 has a line state with a number outside its stage's range count as waiting. Our own ruling is that so does
 -- one in a memory function of another kind, in a memory stage with a flat battery, at a speed that its kind does not
--- have, or with a body that is not of its kind's size: the documents have no such line state. It waits at regular speed.
--- The body of a device of an unknown family has size 0.
+-- have, or with a body that is not of its kind's size: the documents have no such line state. It waits at regular
+-- speed. The body of a device of an unknown family has size 0.
 unfoldable pub orWaiting : LineState → Kind → List ℕ → LineState
 orWaiting state kind body = cond (lineStateInRange state kind body) state waitingState
 

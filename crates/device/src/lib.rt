@@ -1,11 +1,11 @@
 // This crate is one device on the line: its line state by value, and what a slot, a reset and a program pulse leave of
 // it and of its body.
 //
-// A slot is two functions, which are given the level of the line in a slot that the device hears: `step` returns the line state after it and only reads
-// the body, for a search; `slot` returns the same line state, changes the body and says what a copy did, for a run. A
-// line state that the device cannot be in counts as waiting. The functions whose names end in `as_is` leave that test
-// out: no slot, reset or pulse leads out of the range (proofs/Range.antt), so that a run, whose devices wait at the
-// start, needs it nowhere.
+// A slot is two functions, which are given the level of the line in a slot that the device hears: `step` returns the
+// line state after it and only reads the body, for a search; `slot` returns the same line state, changes the body and
+// says what a copy did, for a run. A line state that the device cannot be in counts as waiting. The functions whose
+// names end in `as_is` leave that test out: no slot, reset or pulse leads out of the range (proofs/Range.antt), so that
+// a run, whose devices wait at the start, needs it nowhere.
 use kind::Kind;
 use line::MemoryStage;
 use line::Stage;
@@ -355,8 +355,8 @@ impl LineState {
         stage_end(stage, kind, overdrive, value, body, level)
     }
 
-    // A reset changes the body by the stage in which it comes, and leaves the device at the ROM command, at the speed of
-    // the reset.
+    // A reset changes the body by the stage in which it comes, and leaves the device at the ROM command, at the speed
+    // of the reset.
     pub fn reset_as_is(self, body: &mut [u8], overdrive: bool) -> LineState
         ensures { λ r. ⌜ (r ≡ resetAt overdrive)
             × (now (body .exit) ≡ bodyAfterResetAsIs self (now (body .entry))) ⌝ }

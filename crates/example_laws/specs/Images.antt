@@ -82,8 +82,8 @@ blankDs1982 = ds1982 (ones 8) (ones 128)
 abbrev pub blankDs1996 : List ℕ
 blankDs1996 = ds1996 (zeros 3) (zeros 32) (zeros 8192)
 
--- This image has one device of each kind of document 01, all blank, in an order in which no search finds them; the bodies are at 14,
--- 158 and 713.
+-- This image has one device of each kind of document 01, all blank, in an order in which no search finds them; the
+-- bodies are at 14, 158 and 713.
 abbrev pub oneOfEach : List ℕ
 oneOfEach =
     (0x03 ∷ 0x01 ∷ 0x09 ∷ 0x00 ∷ 0x0E ∷ 0x00 ∷ 0x06 ∷ 0x00 ∷ 0x9E ∷ 0x00 ∷ 0x08 ∷ 0x00 ∷ 0xC9 ∷ 0x02 ∷ [])

@@ -3,7 +3,8 @@ use Prim.Native.Nat.{ℕ}
 use mathlib.Core.List.{List, [], _∷_, _++_}
 use Rattle.line.specs.Transfers.{atRomCommand}
 use Rattle.example_laws.specs.Session.{SessionStep, reset, pulse, write, writeBits, read, skip}
-use Rattle.example_laws.specs.Session.{overdriveReset, unheardReset, overdriveWrite, overdriveWriteBits, overdriveRead}
+use Rattle.example_laws.specs.Session.{overdriveReset, unheardReset, overdriveWrite, overdriveWriteBits}
+use Rattle.example_laws.specs.Session.{overdriveRead}
 use Rattle.example_laws.specs.Images.{ds1992Code, ds1996Code, otherDs1996Code, zeros, ones, sramBody, noDevice}
 use Rattle.example_laws.specs.Images.{ds1992, ds1996, ds1982, blankDs1992, blankDs1993, blankDs1996}
 use Rattle.example_laws.specs.Images.{ds1992AndDs1996, oneFlat, placed, twoBytes}
@@ -141,7 +142,8 @@ lastOf8192 low high = ds1996 (low ∷ high ∷ 0x00 ∷ []) (zeros 32) (placed 0
 -- Its memory ends at 1FFFh.
 abbrev pub readLastOf8192 : Row
 readLastOf8192 =
-    session (lastOf8192 0x00 0x00) (skip (0xF0 ∷ 0xFF ∷ 0x1F ∷ []) ++ read (0x5A ∷ 0xFF ∷ []) ∷ []) (lastOf8192 0xFF 0x1F)
+    session (lastOf8192 0x00 0x00) (skip (0xF0 ∷ 0xFF ∷ 0x1F ∷ []) ++ read (0x5A ∷ 0xFF ∷ []) ∷ [])
+    (lastOf8192 0xFF 0x1F)
 
 -- With a flat battery it goes to overdrive after 3Ch and waits there.
 abbrev pub flatAtOverdrive : Row

@@ -1,5 +1,5 @@
--- Document 01, 'Shop-floor examples', and document 02, item 9, are written here as sessions with devices, byte by byte as
--- the data sheets' tables have them: what the master does, and what it sees on the line.
+-- Document 01, 'Shop-floor examples', and document 02, item 9, are written here as sessions with devices, byte by byte
+-- as the data sheets' tables have them: what the master does, and what it sees on the line.
 use Prim.Native.Nat.{ℕ, zero, suc, _+_, _*_, _/_, _%_}
 use mathlib.Core.List.{List, [], _∷_, _++_}
 use lib.ListN.{length, replicate}

@@ -21,8 +21,8 @@ pub enum RomStage {
     Match { at: u8 },
     // The device sends bit `at` of the code, then its complement, and receives the direction, in three slots.
     Search { at: u8 },
-    // The device receives bit `at` of the code at overdrive speed, in one slot; `before` tells whether it was at overdrive
-    // before the command, as a mismatch leaves it at the speed that it had then.
+    // The device receives bit `at` of the code at overdrive speed, in one slot; `before` tells whether it was at
+    // overdrive before the command, as a mismatch leaves it at the speed that it had then.
     OverdriveMatch { at: u8, before: bool },
 }
 

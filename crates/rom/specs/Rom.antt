@@ -1,6 +1,7 @@
 -- Document 01, 'ROM stage', and document 02, items 7 and 9, are stated here: the transfers of the ROM stage, which
--- follows which, and the speed of a device after each. The registration code is the first 8 bytes of the body. These definitions do not test the numbers of a stage:
--- the crate `device` sees to it that they are in range and that the body has its kind's size.
+-- follows which, and the speed of a device after each. The registration code is the first 8 bytes of the body. These
+-- definitions do not test the numbers of a stage: the crate `device` sees to it that they are in range and that the
+-- body has its kind's size.
 use Prim.Native.Nat.{ℕ, _+_}
 use mathlib.Core.Bool.{Bool, true, cond, _&&_, Bool·beq}
 use mathlib.Core.List.{List}

@@ -8,7 +8,8 @@ use Rattle.bus.specs.declared.Event.the-variants.{Slot, Reset, Pulse, Overdrive
 use Rattle.bus.specs.Bus.{Device, eventOf, lookedAt, busStep}
 use Rattle.bus.specs.Run.{waitingDevices}
 
--- A slot's byte, at either speed, is its number of devices looked at; an event that is not a slot has none, and its byte is 255.
+-- A slot's byte, at either speed, is its number of devices looked at; an event that is not a slot has none, and its
+-- byte is 255.
 unfoldable pub lookedByte : Event → List Device → ℕ
 lookedByte (Slot sent) ds = lookedAt (Slot sent) ds
 lookedByte Reset ds = 255
