@@ -165,7 +165,7 @@ static const char serve_help[] =
     "  --quiet              no status line on a terminal\n"
     "  -f, --force          replace files that are there, each only by its like\n"
     "\n"
-    "Commands on standard input, which the next reset finds done:\n"
+    "Commands on standard input, which the next regular reset finds done:\n"
     "  attach #2, detach #2   put a device on the line, or take it off; its memory is kept\n"
     "  flat #2, good #2       its battery\n"
     "  show                   the devices\n"

@@ -22,7 +22,7 @@ void alone_put_part(struct alone *a, const struct bytes *image, size_t index, co
     alone_receive(a, c->events->data + first, c->levels + first, end - first);
 }
 
-/* Then it hears a reset at overdrive, and answers it. */
+/* Then it hears a reset at overdrive, and answers it. A trace that is full has no room for one, and is not asked. */
 bool is_at_overdrive(const struct carried *c, size_t device, size_t first, size_t place)
 {
     struct alone alone = { 0 };
@@ -49,12 +49,15 @@ static void add(struct parts *p, size_t first)
 /* The library ran the session, so that its first event is a reset at regular speed. */
 struct parts parts_of(const struct carried *c, size_t device)
 {
+    const bool fast = image_device(c->image, device).kind->overdrive;
     struct parts p = { 0 };
 
     for (size_t i = 0; i < c->events->length; i++) {
         const uint8_t event = c->events->data[i];
 
-        if (is_regular_reset(event) || (is_reset(event) && is_at_overdrive(c, device, p.list[p.count - 1].first, i)))
+        if (is_regular_reset(event))
+            add(&p, i);
+        else if (fast && is_reset(event) && is_at_overdrive(c, device, p.list[p.count - 1].first, i))
             add(&p, i);
     }
     for (size_t i = 0; i < p.count; i++)

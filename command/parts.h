@@ -26,7 +26,7 @@ struct parts {
 
 struct parts parts_of(const struct carried *c, size_t device);
 
-/* Whether the device is at overdrive before a place, where it heard a reset at the event first, and none since. */
+/* Whether the device, which heard a reset at the event first and is followed from there, is at overdrive at a place. */
 bool is_at_overdrive(const struct carried *c, size_t device, size_t first, size_t place);
 
 /* The part that an event is in. */

@@ -1,4 +1,4 @@
-/* line.c: the library runs whole traces, so each call runs the one since the last reset again. */
+/* line.c: the library runs whole traces, so each call runs that since the regular reset again. */
 #include "line.h"
 
 #include <string.h>
@@ -6,7 +6,7 @@
 /* One event less than a trace can have, so that the reset that ends it has its place. */
 enum { MOST = TROUGHIRON_MOST_EVENTS - 1 };
 
-/* Runs so many events on the image at the last reset. Returns the level after the last of them. */
+/* Runs so many events on the image at the regular reset. Returns the level after the last. */
 static int run(struct line *l, size_t count)
 {
     uint8_t image[LINE_IMAGE];
