@@ -95,7 +95,7 @@ readSlot Pulse = false
 readSlot (OverdriveSlot sent) = sent
 readSlot OverdriveReset = false
 
--- The level of an event looks at no device in a slot in which the master sends 0, nor in an event that is not a slot.
+-- No device is counted in a slot in which the master sends 0, nor in an event that is not a slot.
 unfoldable pub lookedAt : Event → List Device → ℕ
 lookedAt event ds = cond (readSlot event) (upToFirstLow event ds) 0
 
@@ -123,7 +123,7 @@ heardBody (OverdriveSlot sent) level d = bodyAfterSlot (d .state) (d .kind) (d .
 heardBody OverdriveReset level d = bodyAfterReset (d .state) (d .kind) (d .body)
 
 -- For a device that does not hear an event nothing changes, but that a regular slot makes a device at overdrive wait
--- for a regular reset, as one that waits at regular speed does (our own ruling).
+-- for a regular reset, as one that waits at regular speed does (document 02, item 9).
 unfoldable pub unheardState : Event → LineState → LineState
 unheardState (Slot sent) state = waitingState
 unheardState Reset state = state

@@ -44,8 +44,8 @@ struct Place {
     end: usize,
 }
 
-// A scan is the level of an event, and how many devices were looked at for it: in a slot in which the master sends 1,
-// at either speed, those up to the first that pulls low, in entry order, else none.
+// A scan is the level of an event, and how many devices count as looked at for it: in a slot in which the master sends
+// 1, at either speed, those up to the first that pulls low, in entry order, else none.
 pub struct Scan {
     pub level: bool,
     pub looked: usize,

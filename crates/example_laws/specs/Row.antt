@@ -43,7 +43,7 @@ abbrev pub lentLines : List ℕ → List LineState
 lentLines image = replicate (countOf image) (regularState atMemoryCommand)
 
 -- The run is not refused, copies so many bytes, and leaves this image, these answers, and every line state in this
--- transfer.
+-- transfer, at regular speed.
 abbrev pub Runs : List ℕ → List ℕ → List ℕ → List ℕ → Transfer → ℕ → Type 0
 Runs image sent seen after transfer copied =
     runOf image sent (lentAnswers sent) (lentLines image)

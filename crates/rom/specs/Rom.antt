@@ -30,8 +30,8 @@ matchBit at = listeningOnce (Rom (Match at))
 unfoldable pub searchBit : ℕ → List ℕ → Transfer
 searchBit at body = record { register = cond (bitAt body at) 0b101 0b110; left = 3; stage = Rom (Search at) }
 
--- Skip ROM, CCh, and the end of the 64 bits lead to the memory command: there is no other way out of the ROM stage to
--- the memory. A device with a flat battery waits there instead (document 02, item 7).
+-- Skip ROM, CCh, overdrive skip ROM, 3Ch, and the end of the 64 bits lead to the memory command: there is no other way
+-- out of the ROM stage to the memory. A device with a flat battery waits there instead (document 02, item 7).
 unfoldable pub addressed : Kind → Transfer
 addressed kind = cond (isFlat kind) waiting atMemoryCommand
 
