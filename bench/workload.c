@@ -5,16 +5,28 @@
 /* ------------------------------------------------------------------ */
 /* Kinds                                                               */
 
-static void all_kinds(enum kind *kinds, size_t count)
+const size_t many_devices[SIZES] = { 1, 8, 64 };
+const size_t few_devices[SIZES] = { 1, 7 }; /* eight DS1996 are too many */
+
+/* Those of which 64 fit an image. */
+static void small_kinds(enum kind *kinds, size_t count)
 {
+    static const enum kind small[] = { DS1992, DS1993, DS1982 };
+
     for (size_t i = 0; i < count; i++)
-        kinds[i] = (enum kind)(i % KINDS);
+        kinds[i] = small[i % 3];
 }
 
 static void ds1993_only(enum kind *kinds, size_t count)
 {
     for (size_t i = 0; i < count; i++)
         kinds[i] = DS1993;
+}
+
+static void ds1996_only(enum kind *kinds, size_t count)
+{
+    for (size_t i = 0; i < count; i++)
+        kinds[i] = DS1996;
 }
 
 static void ds1982_only(enum kind *kinds, size_t count)
@@ -121,6 +133,23 @@ static void mixed_sessions(struct trace *t, const struct bench *b)
     }
 }
 
+/* All DS1996 are brought to overdrive, and stay there. */
+static void at_overdrive(void (*session)(struct trace *, const struct bench *),
+                         struct trace *t, const struct bench *b)
+{
+    size_t from;
+
+    trace_overdrive_skip(t);
+    from = t->length;
+    session(t, b);
+    trace_hurry(t, from);
+}
+
+static void mixed_at_overdrive(struct trace *t, const struct bench *b)
+{
+    at_overdrive(mixed_sessions, t, b);
+}
+
 /* ------------------------------------------------------------------ */
 /* All send, or all but one wait                                       */
 
@@ -142,16 +171,36 @@ static void all_but_one_wait(struct trace *t, const struct bench *b)
     }
 }
 
+static void all_send_at_overdrive(struct trace *t, const struct bench *b)
+{
+    at_overdrive(all_send, t, b);
+}
+
 /* ------------------------------------------------------------------ */
 
 const struct workload workloads[] = {
-    { "mixed sessions, all kinds", all_kinds, mixed_sessions },
-    { "mixed sessions, DS1982", ds1982_only, mixed_sessions },
-    { "all send, DS1993", ds1993_only, all_send },
-    { "all send, DS1982", ds1982_only, all_send },
-    { "all but one wait, DS1993", ds1993_only, all_but_one_wait },
-    { "all but one wait, DS1982", ds1982_only, all_but_one_wait },
-    { NULL, NULL, NULL },
+    { "mixed sessions, small kinds", RUN, many_devices, small_kinds,
+      mixed_sessions },
+    { "mixed sessions, DS1982", RUN, many_devices, ds1982_only,
+      mixed_sessions },
+    { "all send, DS1993", RUN, many_devices, ds1993_only, all_send },
+    { "all send, DS1982", RUN, many_devices, ds1982_only, all_send },
+    { "all but one wait, DS1993", RUN, many_devices, ds1993_only,
+      all_but_one_wait },
+    { "all but one wait, DS1982", RUN, many_devices, ds1982_only,
+      all_but_one_wait },
+    { "search, small kinds", SEARCH, many_devices, small_kinds, NULL },
+    { "mixed sessions, DS1996", RUN, few_devices, ds1996_only,
+      mixed_sessions },
+    { "the same at overdrive", RUN, few_devices, ds1996_only,
+      mixed_at_overdrive },
+    { "all send, DS1996", RUN, few_devices, ds1996_only, all_send },
+    { "the same at overdrive", RUN, few_devices, ds1996_only,
+      all_send_at_overdrive },
+    { "all but one wait, DS1996", RUN, few_devices, ds1996_only,
+      all_but_one_wait },
+    { "search, DS1996", SEARCH, few_devices, ds1996_only, NULL },
+    { NULL, RUN, NULL, NULL, NULL },
 };
 
 /* Fresh EPROMs: with bytes of any value most sessions would program nothing. */
@@ -172,14 +221,8 @@ void workload_make(const struct workload *w, size_t devices, size_t events,
     bench_make(b, kinds, devices, devices);
     erase_eproms(b);
     t->length = 0;
+    if (!w->session)
+        return;
     w->session(t, b);
     t->length = events;
-}
-
-void workload_bench(struct bench *b, size_t devices)
-{
-    enum kind kinds[MOST_DEVICES];
-
-    all_kinds(kinds, devices);
-    bench_make(b, kinds, devices, devices);
 }

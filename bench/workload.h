@@ -7,10 +7,19 @@
 
 #include <stddef.h>
 
+/* Devices that fit an image: many that are small, few DS1996. */
+enum { SIZES = 3 };
+extern const size_t many_devices[SIZES], few_devices[SIZES];
+
+/* What is done with a bench: a session on it is run, or it is searched. */
+enum task { RUN, SEARCH };
+
 struct workload {
     const char *name;
+    enum task task;
+    const size_t *devices; /* how many, ending at 0 or after SIZES */
     void (*kinds)(enum kind *kinds, size_t count);
-    void (*session)(struct trace *t, const struct bench *b);
+    void (*session)(struct trace *t, const struct bench *b); /* or NULL */
 };
 
 /* All of them; the last has no name. */
@@ -19,8 +28,5 @@ extern const struct workload workloads[];
 /* Makes the bench of so many devices, and a trace of so many events on it. */
 void workload_make(const struct workload *w, size_t devices, size_t events,
                    struct bench *b, struct trace *t);
-
-/* A bench of so many devices of all kinds, to be searched. */
-void workload_bench(struct bench *b, size_t devices);
 
 #endif

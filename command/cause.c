@@ -1,6 +1,7 @@
 #include "cause.h"
 
 #include "code.h"
+#include "event.h"
 #include "image.h"
 #include "status.h"
 #include "troughiron.h"
@@ -30,8 +31,8 @@ static int one_entry_cause(const char *name, const struct bytes *image, size_t i
         return refused(name, refusal, "entry %zu: byte %zu is %02Xh and neither 00h, good, nor 01h, flat", i + 1,
                        place + 1, entry[1]);
     if (!kind)
-        return refused(name, refusal, "entry %zu: byte %zu, the family, is %02Xh and none of 08h, 06h and 09h", i + 1,
-                       place, entry[0]);
+        return refused(name, refusal, "entry %zu: byte %zu, the family, is %02Xh and none of 08h, 06h, 0Ch and 09h",
+                       i + 1, place, entry[0]);
     if (kind->add_only && entry[1] != TROUGHIRON_GOOD)
         return refused(name, refusal, "entry %zu: byte %zu says flat, and a %s has no battery", i + 1, place + 1,
                        kind->name);
@@ -72,6 +73,8 @@ static int layout_cause(const char *name, const struct bytes *image, uint32_t re
     const size_t count = image_count(image);
     size_t offset = TABLE + ENTRY_SIZE * count;
 
+    if (image->length > TROUGHIRON_MOST_BYTES)
+        return refused(name, refusal, "it has %zu bytes, and %d are the most", image->length, TROUGHIRON_MOST_BYTES);
     for (size_t i = 0; i < count; i++) {
         const uint8_t *const entry = entry_at(image, i);
         const size_t given = entry[2] + 256u * entry[3], place = TABLE + ENTRY_SIZE * i + 2;
@@ -143,31 +146,29 @@ int image_refused(const char *name, const struct bytes *image, uint32_t refusal)
 enum { WHERE = 256 };
 static void write_where(char where[WHERE], const struct session *s, size_t event)
 {
-    size_t i = 0;
+    const struct step *const step = step_of(s, event);
 
-    while (i + 1 < s->count && s->steps[i + 1].first <= event)
-        i++;
     if (s->raw)
         snprintf(where, WHERE, "byte %zu", event);
-    else if (s->steps[i].file == s->name)
-        snprintf(where, WHERE, "%s %zu", s->unit, s->steps[i].line);
+    else if (step->file == s->name)
+        snprintf(where, WHERE, "%s %zu", s->unit, step->line);
     else
-        snprintf(where, WHERE, "%s %zu of %s", s->unit, s->steps[i].line, s->steps[i].file);
+        snprintf(where, WHERE, "%s %zu of %s", s->unit, step->line, step->file);
 }
 
-/* The place of the first event of at least a number, or the number of events. */
-static size_t first_from(const struct bytes *events, uint8_t least)
+/* The place of the first event from one number to another, or the number of events. */
+static size_t first_of(const struct bytes *events, uint8_t least, uint8_t most)
 {
     size_t i = 0;
 
-    while (i < events->length && events->data[i] < least)
+    while (i < events->length && (events->data[i] < least || events->data[i] > most))
         i++;
     return i;
 }
 
 static int trace_cause(const struct session *s, uint32_t refusal)
 {
-    const size_t count = s->events.length, place = first_from(&s->events, TROUGHIRON_PULSE + 1);
+    const size_t count = s->events.length, place = first_of(&s->events, TROUGHIRON_OVERDRIVE_RESET + 1, UINT8_MAX);
     char where[WHERE];
 
     if (count > TROUGHIRON_MOST_EVENTS) {
@@ -178,17 +179,20 @@ static int trace_cause(const struct session *s, uint32_t refusal)
     if (place == count)
         return refused(s->name, refusal, "the trace");
     write_where(where, s, place);
-    return refused(s->name, refusal, "%s: %u is no event; they are 0 to 3", where, s->events.data[place]);
+    return refused(s->name, refusal, "%s: %u is no event; they are 0 to 6", where, s->events.data[place]);
 }
 
 static int begin_cause(const struct session *s, uint32_t refusal)
 {
-    const bool pulse = s->events.data[0] == TROUGHIRON_PULSE;
+    const uint8_t first = s->events.data[0];
     char where[WHERE];
 
     write_where(where, s, 0);
+    if (is_reset(first))
+        return refused(s->name, refusal, "%s: a reset at overdrive comes first, and a trace begins with a regular one",
+                       where);
     return refused(s->name, refusal, "%s: a %s comes first, and a trace begins with a reset", where,
-                   pulse ? "program pulse" : "slot");
+                   first == TROUGHIRON_PULSE ? "program pulse" : "slot");
 }
 
 static int pulse_cause(const struct session *s, const struct bytes *image, uint32_t refusal)
@@ -198,7 +202,7 @@ static int pulse_cause(const struct session *s, const struct bytes *image, uint3
 
     while (i + 1 < image_count(image) && image_device(image, i).kind->add_only)
         i++;
-    write_where(where, s, first_from(&s->events, TROUGHIRON_PULSE));
+    write_where(where, s, first_of(&s->events, TROUGHIRON_PULSE, TROUGHIRON_PULSE));
     return refused(s->name, refusal, "%s: a program pulse, and #%zu is a %s", where, i + 1,
                    image_device(image, i).kind->name);
 }

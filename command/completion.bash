@@ -26,7 +26,7 @@ _troughiron() {
     elif [ "$command" = edit ] && [ "$COMP_CWORD" = 3 ]; then
         words='add remove set take'
     elif [ "$command" = new ] && [ "$COMP_CWORD" -gt 2 ] || [ "$command $before" = 'edit add' ]; then
-        words='ds1992 ds1993 ds1982 ds1992,flat ds1993,flat'
+        words='ds1992 ds1993 ds1996 ds1982 ds1992,flat ds1993,flat ds1996,flat'
     fi
     COMPREPLY=()
     if [ -n "$words" ]; then

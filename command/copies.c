@@ -1,71 +1,51 @@
 #include "copies.h"
 
 #include "event.h"
-#include "image.h"
-#include "transactions.h"
+#include "parts.h"
 #include "troughiron.h"
 
 #include <stdlib.h>
 #include <string.h>
 
 /*
- * The library tells the sum of a run. What one device copied is the sum of a run with that device alone: where the
- * events are the levels that the line had, it receives what it received among the others, as a device that listens
- * takes the level. That it accepted a copy is seen as a master sees it: it answers zeros until a reset, longer than it
- * has bits to read.
+ * The library tells the sum of a run. What one device copied is the sum of a run with that device alone. That it
+ * accepted a copy is seen as a master sees it: it answers zeros until a reset, longer than it has bits to read. So that
+ * these are few, its memory is filled with ones: what a device receives does not depend on it.
  */
-enum { ALONE = TABLE + ENTRY_SIZE };
+enum { READS = 8 * (3 + PAGE_SIZE + 1) }; /* one byte more than the registers and the scratchpad */
 
 struct search {
-    const struct bytes *events;
-    const uint8_t *levels; /* that the line answered */
+    const struct carried *carried;
     struct copies *found;
-    struct bytes image, trace, answers; /* of a device alone */
+    struct bytes image; /* of the device alone, at the reset that the part begins with */
+    size_t device;
+    struct part part;
 };
 
-/* The device as it is in an image, with its entry, and nothing else. */
-static void put_alone(struct search *s, const struct bytes *image, size_t index)
+static void fill_memory(struct bytes *alone)
 {
-    const struct device device = image_device(image, index);
-    uint8_t table[ALONE] = { 1, image->data[1] };
+    const struct device device = image_device(alone, 0);
 
-    memcpy(table + TABLE, image->data + TABLE + ENTRY_SIZE * index, ENTRY_SIZE);
-    table[TABLE + 2] = ALONE;
-    table[TABLE + 3] = 0;
-    s->image.length = 0;
-    bytes_add(&s->image, table, ALONE);
-    bytes_add(&s->image, device.body, kind_body_size(device.kind));
+    memset(alone->data + ALONE + device.kind->memory, 0xFF, device.kind->memory_size);
 }
 
-/* The events from a reset on as a device received them, and then so many read slots. */
-static void put_trace(struct search *s, size_t first, size_t count, size_t reads)
+/* Whether the device has accepted a copy by an event of its part, and what that did. */
+static bool accepts(const struct search *s, size_t end, struct copy *copy)
 {
-    s->trace.length = 0;
-    for (size_t i = first; i < first + count; i++) {
-        const uint8_t event = s->events->data[i];
+    const bool overdrive = is_overdrive(s->carried->events->data[end - 1]);
+    struct alone alone = { 0 };
+    bool zeros = false;
 
-        bytes_repeat(&s->trace, is_slot(event) ? s->levels[i] : event, 1);
-    }
-    bytes_repeat(&s->trace, TROUGHIRON_WRITE_ONE, reads);
-    s->answers.length = 0;
-    bytes_repeat(&s->answers, 1, s->trace.length);
-}
-
-/* Whether the device accepts a copy in the first events from a reset on, and what that does. */
-static bool accepts(struct search *s, const struct bytes *image, size_t first, size_t count, struct copy *copy)
-{
-    const size_t reads = 8 * (kind_body_size(image_device(image, copy->device).kind) + 1);
-
-    if (count + reads > TROUGHIRON_MOST_EVENTS)
-        return false;
-    put_alone(s, image, copy->device);
-    put_trace(s, first, count, reads);
-    if (troughiron_run(s->image.data, s->image.length, s->trace.data, s->trace.length, s->answers.data,
-                       s->answers.length, &copy->bytes))
-        return false;
-    copy->event = first + count - 1;
-    copy->address = s->image.data[ALONE + TA1] + 256u * s->image.data[ALONE + TA2];
-    return !memchr(s->answers.data + count, 1, reads);
+    alone_put_part(&alone, &s->image, 0, s->carried, s->part.first, end);
+    fill_memory(&alone.image);
+    alone_add(&alone, slot_of(true, overdrive), READS);
+    if (alone.trace.length <= TROUGHIRON_MOST_EVENTS && alone_run(&alone, &copy->bytes))
+        zeros = !memchr(alone.answers.data + alone.answers.length - READS, 1, READS);
+    copy->device = s->device;
+    copy->event = end - 1;
+    copy->address = alone.image.data[ALONE + TA1] + 256u * alone.image.data[ALONE + TA2];
+    alone_free(&alone);
+    return zeros;
 }
 
 static void add(struct copies *c, struct copy copy)
@@ -77,39 +57,74 @@ static void add(struct copies *c, struct copy copy)
     c->list[c->count++] = copy;
 }
 
-/* The first of the events from a reset on with which the device accepts a copy, if there is one. */
-static void find_copy(struct search *s, const struct bytes *image, size_t index, size_t first, size_t count)
+/* The end of the events of one speed that start with one of the part. */
+static size_t same_speed_end(const struct search *s, size_t first)
 {
-    struct copy copy = { .device = index }, probe = copy;
-    size_t without = 0, with = count;
+    const uint8_t *const events = s->carried->events->data;
+    size_t end = first + 1;
 
-    if (!accepts(s, image, first, count, &copy))
-        return;
+    while (end < s->part.end && is_overdrive(events[end]) == is_overdrive(events[first]))
+        end++;
+    return end;
+}
+
+/* The first of some events with which the device accepts a copy, where it has accepted none before them. */
+static bool find_copy(const struct search *s, size_t without, size_t with)
+{
+    struct copy copy, probe;
+
+    if (!accepts(s, with, &copy))
+        return false;
     while (with - without > 1) {
         const size_t middle = without + (with - without) / 2;
 
-        if (accepts(s, image, first, middle, &probe)) {
+        if (accepts(s, middle, &probe)) {
             with = middle;
             copy = probe;
         } else
             without = middle;
     }
     add(s->found, copy);
+    return true;
 }
 
-/* No pattern is so long that a copy comes later than this after a reset. */
-static size_t looked_through(size_t count)
+/* A device copies once between two resets. What it answers then it answers at its own speed alone. */
+static void part_copies(const struct search *s)
 {
-    const size_t most = TROUGHIRON_MOST_EVENTS / 2;
-
-    return count < most ? count : most;
+    for (size_t from = s->part.first, end; from < s->part.end; from = end) {
+        end = same_speed_end(s, from);
+        if (find_copy(s, from, end))
+            return;
+    }
 }
 
-static void transaction_copies(struct search *s, const struct bytes *image, size_t first, size_t end)
+/* Goes on to the next part: the reset that ends this one may set PF. */
+static void next_part(struct search *s)
 {
-    for (size_t i = 0; i < image_count(image); i++)
-        if (!image_device(image, i).kind->add_only)
-            find_copy(s, image, i, first, looked_through(end - first));
+    const size_t events = s->carried->events->length, end = s->part.end < events ? s->part.end + 1 : events;
+    struct alone alone = { 0 };
+    uint64_t copied;
+
+    alone_put_part(&alone, &s->image, 0, s->carried, s->part.first, end);
+    if (alone.trace.length <= TROUGHIRON_MOST_EVENTS && alone_run(&alone, &copied))
+        memcpy(s->image.data, alone.image.data, s->image.length);
+    alone_free(&alone);
+}
+
+static void device_copies(struct search *s)
+{
+    struct parts parts = parts_of(s->carried, s->device);
+    struct alone alone = { 0 };
+
+    alone_put(&alone, s->carried->image, s->device);
+    s->image = alone.image;
+    for (size_t i = 0; i < parts.count; i++) {
+        s->part = parts.list[i];
+        part_copies(s);
+        next_part(s);
+    }
+    alone_free(&alone);
+    parts_free(&parts);
 }
 
 static int by_event(const void *a, const void *b)
@@ -123,23 +138,17 @@ static int by_event(const void *a, const void *b)
 
 struct copies copies_of(const struct bytes *image, const struct bytes *events, const uint8_t *answers)
 {
+    const struct carried carried = { image, events, answers };
     struct copies found = { 0 };
-    struct search s = { .events = events, .levels = answers, .found = &found };
-    struct transactions t = transactions_of(image, events);
-    size_t first = 0;
 
-    for (size_t i = 1; i <= events->length; i++)
-        if (i == events->length || events->data[i] == TROUGHIRON_RESET) {
-            transaction_copies(&s, &t.after, first, i);
-            (void)transactions_next(&t, i < events->length ? i + 1 : i);
-            first = i;
-        }
+    for (size_t i = 0; i < image_count(image); i++) {
+        struct search s = { .carried = &carried, .found = &found, .device = i };
+
+        if (!image_device(image, i).kind->add_only)
+            device_copies(&s);
+    }
     if (found.count > 1)
         qsort(found.list, found.count, sizeof *found.list, by_event);
-    transactions_free(&t);
-    bytes_free(&s.image);
-    bytes_free(&s.trace);
-    bytes_free(&s.answers);
     return found;
 }
 

@@ -1,7 +1,7 @@
 /*
  * The DS2480B of a DS9097U, an active adapter: a program sends it commands and data bytes, and it makes the resets and
- * slots. Bits of its bytes are numbered as in its data sheet; a command's bits 3 and 2 are the speed of the line, which
- * is taken as regular.
+ * slots. Bits of its bytes are numbered as in its data sheet; a command's bits 3 and 2 are the speed of the line, for
+ * what it does itself and for the data bytes after it.
  */
 #include "adapter.h"
 
@@ -18,6 +18,8 @@ enum {
     FOUND = 0xCD,       /* what a reset is answered with: a presence, */
     NOT_FOUND = 0xCF,   /* or none */
     BIT_READ = 0x03,
+    SPEED = 0x0C,       /* regular is 00h, flexible 04h, which is regular with longer edges */
+    OVERDRIVE = 0x08,
     SEARCH_BYTES = 16   /* two bits for each bit of a code */
 };
 
@@ -97,6 +99,12 @@ static uint8_t pulsed(struct live *l, uint8_t command)
     return command & 0xFC;
 }
 
+/* A reset at regular speed leaves the line there. */
+static bool reset_line(struct live *l, uint8_t command)
+{
+    return (command & SPEED) == OVERDRIVE ? live_overdrive_reset(l) : live_reset(l);
+}
+
 static void take_command(struct ds2480b *d, struct live *l, uint8_t command, struct bytes *reply)
 {
     if (command == TO_DATA) {
@@ -106,10 +114,13 @@ static void take_command(struct ds2480b *d, struct live *l, uint8_t command, str
     } else if (!(command & 0x80)) {
         bytes_repeat(reply, configured(d, command), 1);
     } else if ((command & KIND) == RESET) {
-        bytes_repeat(reply, live_reset(l) ? FOUND : NOT_FOUND, 1);
+        bytes_repeat(reply, reset_line(l, command) ? FOUND : NOT_FOUND, 1);
+        l->line.overdrive = (command & SPEED) == OVERDRIVE;
     } else if ((command & KIND) == SINGLE_BIT) {
+        l->line.overdrive = (command & SPEED) == OVERDRIVE;
         bytes_repeat(reply, (uint8_t)((command & 0xFC) | (live_slot(l, command & VALUE) ? BIT_READ : 0)), 1);
     } else if ((command & KIND) == SEARCH) {
+        l->line.overdrive = (command & SPEED) == OVERDRIVE;
         d->searches = command & VALUE;
         d->taken = 0;
     } else if ((command & KIND) == PULSE) {

@@ -60,7 +60,7 @@ void save_write(struct bytes *out, const char *vcd)
 
     bytes_print(out, "%s[dumpfile] \"%s\"\n[savefile] \"%s\"\n", SAVE_START, name_of(vcd), name_of(save));
     bytes_print(out, "[timestart] 0\n[size] 1200 400\n[pos] -1 -1\n*-8.5 -1\n[sst_expanded] 0\n");
-    bytes_print(out, "@28\n%s.line\n%s.master\n%s.pulse\n", VCD_SCOPE, VCD_SCOPE, VCD_SCOPE);
+    bytes_print(out, "@28\n%s.line\n%s.master\n%s.pulse\n%s.overdrive\n", VCD_SCOPE, VCD_SCOPE, VCD_SCOPE, VCD_SCOPE);
     bytes_print(out, "@2020\n^1 %s\n%s.step\n", name_of(steps), VCD_SCOPE);
     free(steps);
     free(save);

@@ -104,7 +104,7 @@ static int expect_unchanged(struct reader *r, const struct device *after)
     return nothing_after(r, "expect unchanged");
 }
 
-/* Of a DS1992 or DS1993. */
+/* Of a device with a scratchpad. */
 static int expect_registers(struct reader *r, const char *word, const uint8_t *body)
 {
     if (strcasecmp(word, "TA") == 0)

@@ -13,10 +13,10 @@ enum { AT_A_GLANCE = 600 };
 static const char style[] =
     "<style>\n"
     ":root { color-scheme: light dark; --line: #1a1a1a; --device: #c2410c; --dim: #666; --box: #d4d4d4;\n"
-    "  --bad: #b91c1c; --paper: #fff; }\n"
+    "  --bad: #b91c1c; --paper: #fff; --fast: #ecfdf5; }\n"
     "@media (prefers-color-scheme: dark) {\n"
     "  :root { --line: #e5e5e5; --device: #fb923c; --dim: #a3a3a3; --box: #404040; --bad: #f87171;\n"
-    "    --paper: #171717; }\n"
+    "    --paper: #171717; --fast: #12291f; }\n"
     "}\n"
     "body { margin: 1rem auto; max-width: 76rem; padding: 0 1rem; background: var(--paper); color: var(--line);\n"
     "  font: 1rem/1.4 system-ui, sans-serif; }\n"
@@ -29,6 +29,7 @@ static const char style[] =
     "figure { margin: 0; text-align: center; border-left: 1px dotted var(--box);\n"
     "  font: .75rem/1.2 ui-monospace, monospace; }\n"
     "figure.not { color: var(--bad); }\n"
+    "figure[data-fast] { background: var(--fast); }\n"
     "figcaption i { color: var(--dim); font-style: normal; }\n"
     "svg { display: block; }\n"
     "path { fill: none; stroke: var(--line); stroke-width: 1.5; }\n"
@@ -68,8 +69,8 @@ static void add_head(struct bytes *page, const char *name)
     bytes_print(page, "</title>\n%s<h1>", style);
     html_text(page, name, strlen(name));
     bytes_print(page, "</h1>\n<p>The line, byte by byte; a <span style=\"color: var(--device)\">thick stroke</span> is "
-                      "a low that devices hold. Under each byte: what the master sent, and what the line "
-                      "answered.</p>\n");
+                      "a low that devices hold. Under each byte: what the master sent, and what the line answered; "
+                      "<span style=\"background: var(--fast)\">shaded</span>: at overdrive.</p>\n");
 }
 
 /* ------------------------------------------------------------------ */
@@ -110,7 +111,7 @@ static size_t transaction_end(const struct bytes *events, size_t first)
 {
     size_t end = first + 1;
 
-    while (end < events->length && !is_reset(events->data[end]))
+    while (end < events->length && !is_regular_reset(events->data[end]))
         end++;
     return end;
 }

@@ -94,9 +94,9 @@ static void add_levels(struct bytes *page, const uint8_t *levels, size_t count)
 /* One byte, or the slots that are left, or a reset or a pulse. */
 static void add_figure(struct bytes *page, const uint8_t *events, const uint8_t *answers, size_t count, bool written)
 {
-    const bool differs = is_slot(*events) && written && memcmp(events, answers, count) != 0;
+    const bool differs = is_slot(*events) && written && !is_as_sent(events, answers, count);
 
-    bytes_print(page, "<figure%s>", differs ? " class=\"not\"" : "");
+    bytes_print(page, "<figure%s%s>", differs ? " class=\"not\"" : "", is_overdrive(*events) ? " data-fast" : "");
     draw(page, events, answers, count);
     bytes_print(page, "<figcaption>");
     if (is_slot(*events)) {
@@ -105,7 +105,8 @@ static void add_figure(struct bytes *page, const uint8_t *events, const uint8_t 
         bytes_print(page, "</i><br>");
         add_levels(page, answers, count);
     } else {
-        bytes_print(page, "%s", !is_reset(*events) ? "pulse" : *answers ? "no presence" : "presence");
+        bytes_print(page, "%s%s", is_overdrive(*events) ? "overdrive " : "",
+                    !is_reset(*events) ? "pulse" : *answers ? "no presence" : "presence");
     }
     bytes_print(page, "</figcaption></figure>");
 }

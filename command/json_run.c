@@ -2,6 +2,7 @@
 #include "copies.h"
 #include "event.h"
 #include "json_reports.h"
+#include "parts.h"
 #include "transactions.h"
 
 /* ------------------------------------------------------------------ */
@@ -109,6 +110,17 @@ static void add_changes(struct json *j, const struct bytes *before, const struct
     json_close(j, ']');
 }
 
+static void add_speeds(struct json *j, const struct run_outcome *run, size_t first, size_t end)
+{
+    const struct carried carried = { &run->session->image, &run->session->events, run->answers };
+
+    json_open(j, "at_overdrive", '[');
+    for (size_t i = 0; i < image_count(carried.image); i++)
+        if (image_device(carried.image, i).kind->overdrive && is_at_overdrive(&carried, i, first, end))
+            json_number(j, NULL, i + 1);
+    json_close(j, ']');
+}
+
 /* A transaction goes from one reset to the next, which is the one that sets PF for it. */
 static void add_transactions(struct json *j, const struct run_outcome *run)
 {
@@ -117,12 +129,13 @@ static void add_transactions(struct json *j, const struct run_outcome *run)
 
     json_open(j, "transactions", '[');
     for (size_t first = 0, end; first < events->length; first = end) {
-        for (end = first + 1; end < events->length && !is_reset(events->data[end]);)
+        for (end = first + 1; end < events->length && !is_regular_reset(events->data[end]);)
             end++;
         (void)transactions_next(&transactions, end < events->length ? end + 1 : end);
         json_open(j, NULL, '{');
         json_number(j, "first", first);
         json_number(j, "events", end - first);
+        add_speeds(j, run, first, end);
         add_changes(j, &transactions.before, &transactions.after);
         json_close(j, '}');
     }

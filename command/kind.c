@@ -6,9 +6,10 @@
 #include <strings.h>
 
 static const struct kind kinds[] = {
-    { "DS1992", TROUGHIRON_DS1992, false, SCRATCHPAD + PAGE_SIZE, 128 },
-    { "DS1993", TROUGHIRON_DS1993, false, SCRATCHPAD + PAGE_SIZE, 512 },
-    { "DS1982", TROUGHIRON_DS1982, true, STATUS + STATUS_SIZE, PAGES * PAGE_SIZE },
+    { "DS1992", TROUGHIRON_DS1992, false, false, SCRATCHPAD + PAGE_SIZE, 128 },
+    { "DS1993", TROUGHIRON_DS1993, false, false, SCRATCHPAD + PAGE_SIZE, 512 },
+    { "DS1996", TROUGHIRON_DS1996, false, true, SCRATCHPAD + PAGE_SIZE, 8192 },
+    { "DS1982", TROUGHIRON_DS1982, true, false, STATUS + STATUS_SIZE, PAGES * PAGE_SIZE },
 };
 
 enum { KINDS = sizeof kinds / sizeof *kinds };

@@ -9,7 +9,7 @@
 enum {
     CODE_SIZE = 8,
     PAGE_SIZE = 32,
-    /* in the body of a DS1992 or DS1993 */
+    /* in the body of a device with a scratchpad */
     TA1 = CODE_SIZE,
     TA2 = TA1 + 1,
     ES = TA2 + 1,
@@ -24,6 +24,7 @@ struct kind {
     const char *name;
     uint8_t family;
     bool add_only; /* the DS1982 */
+    bool overdrive; /* it has that speed too */
     size_t memory; /* where the memory, or the data of a DS1982, is in the body */
     size_t memory_size;
 };

@@ -38,7 +38,8 @@ static int read_step(struct reader *r)
         { "pulse", read_pulse, false },   { "events", read_events, false },  { "read-rom", read_rom, false },
         { "search", read_search, false }, { "expect", read_expect, false },  { "keep", read_keep, false },
         { "name", read_name, false },     { "bench", read_bench, false },    { "repeat", read_repeat, false },
-        { "end", read_end, false },       { "include", read_include, false },
+        { "end", read_end, false },       { "include", read_include, false }, { "overdrive", read_overdrive, true },
+        { "speed", read_speed, false },
     };
     const char *const word = next_word(r);
     char room[SHOWN_ROOM];
@@ -47,8 +48,8 @@ static int read_step(struct reader *r)
         if (strcasecmp(word, steps[i].word) == 0)
             return read_known(r, steps[i].read, steps[i].written);
     return wrong_line(r,
-                      "unknown step '%s'; steps are reset, skip, match, read-rom, search, send, bits, read, pulse, "
-                      "events, expect, keep, name, bench, repeat, end and include",
+                      "unknown step '%s'; steps are reset, skip, match, read-rom, search, overdrive, speed, send, "
+                      "bits, read, pulse, events, expect, keep, name, bench, repeat, end and include",
                       shown(room, word));
 }
 

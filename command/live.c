@@ -1,5 +1,6 @@
 #include "live.h"
 
+#include "event.h"
 #include "image.h"
 
 #include <string.h>
@@ -129,6 +130,20 @@ bool live_reset(struct live *l)
     return presence;
 }
 
+/* One before the first reset at regular speed is none that the library runs, and nobody answers it. */
+bool live_overdrive_reset(struct live *l)
+{
+    const int presence = line_overdrive_reset(&l->line);
+
+    if (presence < 0) {
+        l->lost++;
+        return false;
+    }
+    l->resets++;
+    tell(l, TROUGHIRON_OVERDRIVE_RESET, !presence);
+    return presence;
+}
+
 /*
  * A slot before the first reset, and one past the longest trace, is none that the library runs. Nobody answers it: the
  * line is as the master leaves it.
@@ -142,7 +157,7 @@ bool live_slot(struct live *l, bool one)
         return one;
     }
     l->slots++;
-    tell(l, one ? TROUGHIRON_WRITE_ONE : TROUGHIRON_WRITE_ZERO, level);
+    tell(l, slot_of(one, l->line.overdrive), level);
     return level;
 }
 

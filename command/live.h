@@ -33,14 +33,15 @@ struct live {
 /* Puts every device of an accepted image on the line. */
 void live_open(struct live *l, const struct bytes *image, struct listener listener);
 
-/* A reset: whether a device answers. A slot: the level of the line. A pulse. */
+/* A reset: whether a device answers. A slot, at the speed of the line: its level. A pulse. */
 bool live_reset(struct live *l);
+bool live_overdrive_reset(struct live *l);
 bool live_slot(struct live *l, bool one);
 void live_pulse(struct live *l);
 
 /*
- * What a tester does takes effect with the next reset: a device that goes does not hear it, so that its line state is
- * lost and its memory kept as it was; one that comes is there for it.
+ * What a tester does takes effect with the next reset at regular speed: a device that goes does not hear it, so that
+ * its line state is lost and its memory kept as it was; one that comes is there for it.
  */
 void live_attach(struct live *l, size_t index, bool attached);
 void live_flat(struct live *l, size_t index, bool flat);

@@ -44,6 +44,7 @@ struct reader {
     size_t again; /* lines that came by repeat and include */
     struct bytes line;
     char *rest; /* of the line */
+    bool overdrive; /* the speed of the master */
     struct names devices, kept;
     struct bytes sent; /* by the last send */
     struct sofar sofar;
@@ -108,6 +109,8 @@ int read_reset(struct reader *r);
 int read_pulse(struct reader *r);
 int read_skip(struct reader *r);
 int read_match(struct reader *r);
+int read_overdrive(struct reader *r);
+int read_speed(struct reader *r);
 int read_rom(struct reader *r);
 int read_search(struct reader *r);
 int read_send(struct reader *r);

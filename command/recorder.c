@@ -15,15 +15,18 @@ static bool is_byte(const uint8_t *events, size_t count)
 {
     size_t slots = 0;
 
-    while (slots < 8 && slots < count && is_slot(events[slots]))
+    while (slots < 8 && slots < count && is_slot(events[slots]) && is_overdrive(events[slots]) == is_overdrive(*events))
         slots++;
     return slots == 8;
 }
 
 size_t transaction_bytes(const struct recorder *r, uint8_t *bytes, size_t room)
 {
-    const size_t start = r->transaction + 1, end = r->events.length;
-    size_t count = 0;
+    const size_t end = r->events.length;
+    size_t start = end, count = 0;
+
+    while (start > r->transaction + 1 && !is_reset(r->events.data[start - 1]))
+        start--;
 
     for (size_t i = start; i < end && count < room; i += 8) {
         if (!is_byte(r->events.data + i, end - i))
@@ -36,7 +39,7 @@ size_t transaction_bytes(const struct recorder *r, uint8_t *bytes, size_t room)
     return count;
 }
 
-/* A transaction as the line carried it: bytes, single levels and pulses. */
+/* A transaction as the line carried it: bytes, single levels, pulses, and resets at overdrive. */
 static void log_events(FILE *log, const uint8_t *events, const uint8_t *answers, size_t count)
 {
     for (size_t i = 0; i < count;) {
@@ -48,7 +51,10 @@ static void log_events(FILE *log, const uint8_t *events, const uint8_t *answers,
             fprintf(log, " %02X", byte);
             i += 8;
         } else {
-            fprintf(log, is_slot(events[i]) ? " %db" : " pulse", answers[i]);
+            if (is_reset(events[i]))
+                fprintf(log, " overdrive reset, %s:", answers[i] ? "no presence" : "presence");
+            else
+                fprintf(log, is_slot(events[i]) ? " %db" : " pulse", answers[i]);
             i++;
         }
     }
@@ -156,11 +162,11 @@ static void hear_event(void *self, uint8_t event, uint8_t answer)
 {
     struct recorder *const r = self;
 
-    if (is_reset(event))
+    if (is_regular_reset(event))
         log_transaction(r);
     if (r->events.length == TROUGHIRON_MOST_EVENTS)
         end_run_at(r, r->transaction);
-    if (is_reset(event))
+    if (is_regular_reset(event))
         r->transaction = r->events.length;
     bytes_repeat(&r->events, event, 1);
     bytes_repeat(&r->answers, answer, 1);

@@ -29,7 +29,7 @@ enum holding recorded_holding(size_t file);
 /* What the recorder hears of the line. */
 struct listener recorder_listener(struct recorder *r);
 
-/* The bytes that the line has carried since the last reset, up to the first slots that are none. */
+/* The bytes that the line has carried since the last reset of either speed, up to the first slots that are none. */
 size_t transaction_bytes(const struct recorder *r, uint8_t *bytes, size_t room);
 
 /* Writes what is not written yet. Returns DONE, or says why not. */

@@ -40,7 +40,7 @@ static bool holds(const struct bytes *file, enum holding holding)
     case HOLDS_ANSWERS:
         return all_within(file, 1);
     case HOLDS_TRACE:
-        return all_within(file, TROUGHIRON_PULSE);
+        return all_within(file, TROUGHIRON_OVERDRIVE_RESET);
     case HOLDS_WAVEFORM:
         return starts_with(file, VCD_START);
     case HOLDS_SAVE:

@@ -4,6 +4,7 @@
 #include "copies.h"
 #include "event.h"
 #include "image.h"
+#include "parts.h"
 #include "progress.h"
 #include "style.h"
 #include "transactions.h"
@@ -22,7 +23,8 @@ size_t row_end(const uint8_t *events, size_t first, size_t end, size_t most_byte
 {
     size_t last = first;
 
-    while (last < end && last < first + 8 * most_bytes && is_slot(events[last]))
+    while (last < end && last < first + 8 * most_bytes && is_slot(events[last]) &&
+           is_overdrive(events[last]) == is_overdrive(events[first]))
         last++;
     if (last - first >= 8)
         last -= (last - first) % 8;
@@ -33,7 +35,7 @@ size_t row_end(const uint8_t *events, size_t first, size_t end, size_t most_byte
 static size_t write_bits(char *cell, const uint8_t *levels, size_t count)
 {
     for (size_t i = 0; i < count; i++)
-        cell[i] = levels[i] ? '1' : '0';
+        cell[i] = levels[i] & 1 ? '1' : '0';
     cell[count] = '\0';
     return count;
 }
@@ -62,14 +64,14 @@ static void write_sent(char cell[CELL], const uint8_t *events, size_t count, boo
     if (is_slot(*events))
         write_levels(cell, events, count, bits);
     else
-        strcpy(cell, *events == TROUGHIRON_RESET ? "reset" : "pulse");
+        strcpy(cell, !is_reset(*events) ? "pulse" : is_overdrive(*events) ? "overdrive reset" : "reset");
 }
 
 static void write_answered(char cell[CELL], uint8_t event, const uint8_t *levels, size_t count, bool bits)
 {
     if (is_slot(event))
         write_levels(cell, levels, count, bits);
-    else if (event == TROUGHIRON_RESET)
+    else if (is_reset(event))
         strcpy(cell, *levels ? "no presence" : "presence");
     else
         strcpy(cell, "-");
@@ -96,7 +98,7 @@ static void print_mark(FILE *out, const uint8_t *events, const uint8_t *answers,
     const char *before = width == 1 ? "  ! not as sent: slot " : "  ! not as sent: byte ";
 
     for (size_t i = 0; i < count; i += width)
-        if (memcmp(events + i, answers + i, width) != 0) {
+        if (!is_as_sent(events + i, answers + i, width)) {
             fprintf(out, "%s%zu", before, i / width + 1);
             before = ", ";
         }
@@ -105,6 +107,7 @@ static void print_mark(FILE *out, const uint8_t *events, const uint8_t *answers,
 /* What is needed to print a row. */
 struct report {
     FILE *out;
+    const struct bytes *all; /* events */
     const uint8_t *events, *answers;
     bool bits, colour, changed;
     struct transactions transactions;
@@ -137,6 +140,8 @@ static void print_row(struct report *r, const struct step *step, size_t from, si
     style_bright(r->out, r->colour && is_slot(event) && strcmp(sent, answered) != 0, answered);
     if (is_slot(event) && step->written)
         print_mark(r->out, r->events + from, r->answers + from, to - from, r->bits);
+    if (is_slot(event) && is_overdrive(event))
+        fputs("  (overdrive)", r->out);
     fputc('\n', r->out);
 }
 
@@ -177,9 +182,25 @@ static void print_note(struct report *r, const struct step *step)
     fputc('\n', r->out);
 }
 
+/* The devices that are at overdrive at the end of a transaction, in a line each. */
+static void print_speeds(struct report *r, size_t end)
+{
+    const struct carried carried = { r->image, r->all, r->answers };
+    char name[DEVICE_TEXT];
+
+    for (size_t i = 0; end > 0 && i < image_count(r->image); i++) {
+        const struct device device = image_device(r->image, i);
+
+        device_write(name, &device);
+        if (device.kind->overdrive && is_at_overdrive(&carried, i, r->transactions.start, end))
+            fprintf(r->out, "%*sat overdrive: %s\n", MARGIN, "", name);
+    }
+}
+
 /* A transaction starts with the reset whose row comes next. */
 static void start_transaction(struct report *r, size_t at)
 {
+    print_speeds(r, at);
     print_changes(r, at + 1);
     if (r->starts) {
         fflush(r->out);
@@ -197,7 +218,7 @@ static void print_step(struct report *r, const struct step *step)
         print_note(r, step);
     for (size_t i = step->first, next; i < end; i = next) {
         next = row_end(r->events, i, end, r->bits ? 1 : ROW_BYTES);
-        if (r->events[i] == TROUGHIRON_RESET)
+        if (is_regular_reset(r->events[i]))
             start_transaction(r, i);
         print_row(r, step, i, next);
         print_copies(r, next);
@@ -213,6 +234,7 @@ static bool print_steps(FILE *out, const struct run_outcome *run, bool bits, str
 
     r.colour = !starts && style_wanted(out);
     r.image = &s->image;
+    r.all = &s->events;
     r.file = s->name;
     r.copies = copies_of(&s->image, &s->events, run->answers);
     r.transactions = transactions_of(&s->image, &s->events);
@@ -221,6 +243,7 @@ static bool print_steps(FILE *out, const struct run_outcome *run, bool bits, str
         print_step(&r, &s->steps[i]);
         progress_at(&progress, s->steps[i].first + s->steps[i].count);
     }
+    print_speeds(&r, s->events.length);
     print_changes(&r, s->events.length);
     progress_end(&progress);
     transactions_free(&r.transactions);
@@ -238,7 +261,7 @@ static void print_counts(FILE *out, const struct bytes *events, uint64_t copied)
     size_t resets = 0, pulses = 0;
 
     for (size_t i = 0; i < events->length; i++) {
-        resets += events->data[i] == TROUGHIRON_RESET;
+        resets += is_reset(events->data[i]);
         pulses += events->data[i] == TROUGHIRON_PULSE;
     }
     report_number(out, events->length, "event", "events");

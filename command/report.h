@@ -25,8 +25,8 @@ struct run_outcome {
 void report_run(FILE *out, const struct run_outcome *run, bool bits, struct bytes *starts);
 
 /*
- * The end of the row of events that starts at one of them: a reset, a pulse, whole bytes of slots, up to a number of
- * bytes, or the slots that are left.
+ * The end of the row of events that starts at one of them: a reset, a pulse, whole bytes of slots of one speed, up to
+ * a number of bytes, or the slots that are left.
  */
 size_t row_end(const uint8_t *events, size_t first, size_t end, size_t most_bytes);
 

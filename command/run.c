@@ -2,7 +2,7 @@
 #include "cause.h"
 #include "commands.h"
 #include "html.h"
-#include "image.h"
+#include "inputs.h"
 #include "json_reports.h"
 #include "outputs.h"
 #include "record.h"
@@ -15,37 +15,13 @@
 
 struct run {
     struct record_paths paths;
-    const char *image_path, *session_path; /* the image is null where the session has a bench of its own */
-    bool raw, bits, quiet, json;
+    struct inputs inputs;
+    bool bits, quiet, json;
     FILE *report;
     struct bytes image, answers;
     uint64_t copied;
     struct session session;
 };
-
-/* ------------------------------------------------------------------ */
-/* The command line                                                    */
-
-static int same_standard_input(const struct run *r)
-{
-    if (r->image_path && strcmp(r->image_path, "-") == 0 && strcmp(r->session_path, "-") == 0)
-        return bad_usage("run", "only one of the image and the session can come from standard input");
-    return DONE;
-}
-
-/* The image and the session, which may have a bench in the image's place; raw events stand in the session's place. */
-static int take_words(struct run *r, const struct words *words, const char *trace)
-{
-    r->raw = trace;
-    if (trace && words->count != 1)
-        return words_wrong(words, "one image");
-    if (words->count != 1 && words->count != 2)
-        return words_wrong(words, "an image and a session, or a session with a bench,");
-    r->image_path = trace || words->count == 2 ? words->list[0] : NULL;
-    r->session_path = trace ? trace : words->list[words->count - 1];
-    r->paths.replacing.own = r->image_path && strcmp(r->image_path, "-") != 0 ? r->image_path : NULL;
-    return same_standard_input(r);
-}
 
 /* Room for the answers, by default what the trace needs. */
 static int make_room(struct run *r, const char *room)
@@ -61,33 +37,11 @@ static int make_room(struct run *r, const char *room)
     return DONE;
 }
 
-/* ------------------------------------------------------------------ */
-/* The run                                                             */
-
-/* An image in the place of a session, which is forgotten after it. */
-static int session_is_there(const struct run *r)
-{
-    struct bytes file = { 0 };
-    const bool asked = !r->image_path && strcmp(r->session_path, "-") != 0;
-    int status = asked ? bytes_read_most(&file, r->session_path, FAR_TOO_LONG) : DONE;
-
-    if (status == DONE && asked && image_refusal(&file) == 0)
-        status = bad_usage("run", "%s is an image; a session expected after it", r->session_path);
-    bytes_free(&file);
-    return status;
-}
-
 static int read_input(struct run *r)
 {
-    struct bytes given = { 0 };
-    int status = r->image_path ? image_read(&given, r->image_path) : session_is_there(r);
+    const int status = inputs_read(&r->inputs, &r->session);
 
-    if (status == DONE && r->raw)
-        status = session_read_raw(&r->session, r->session_path, &given);
-    else if (status == DONE)
-        status = session_read(&r->session, r->session_path, r->image_path ? &given : NULL);
     bytes_add(&r->image, r->session.image.data, r->session.image.length);
-    bytes_free(&given);
     return status;
 }
 
@@ -182,7 +136,8 @@ int run_command(struct words *words)
     int status = options_take(words, options, sizeof options / sizeof *options);
 
     if (status == DONE)
-        status = take_words(&r, words, trace);
+        status = inputs_take(&r.inputs, words, trace);
+    r.paths.replacing.own = is_standard_input(r.inputs.image) ? NULL : r.inputs.image;
     if (status == DONE && !(r.report = record_report("run", &r.paths)))
         status = USAGE;
     if (status == DONE)

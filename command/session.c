@@ -30,6 +30,16 @@ void step_events(struct session *s, const uint8_t *events, size_t count)
     s->steps[s->count - 1].count += count;
 }
 
+/* A step without events begins where the next one does, which comes after it. */
+const struct step *step_of(const struct session *s, size_t event)
+{
+    size_t i = 0;
+
+    while (i + 1 < s->count && s->steps[i + 1].first <= event)
+        i++;
+    return &s->steps[i];
+}
+
 size_t step_number(const struct session *s, const struct step *step)
 {
     enum { MOST_LINES = 1000000 };
@@ -83,7 +93,9 @@ static const char *raw_text(uint8_t event)
 {
     if (is_slot(event))
         return "slots";
-    return event == TROUGHIRON_RESET ? "reset" : event == TROUGHIRON_PULSE ? "pulse" : "unknown";
+    if (is_reset(event))
+        return is_overdrive(event) ? "overdrive reset" : "reset";
+    return event == TROUGHIRON_PULSE ? "pulse" : "unknown";
 }
 
 int session_read_raw(struct session *s, const char *path, const struct bytes *image)

@@ -50,6 +50,9 @@ void session_step(struct session *s, size_t line, const char *text, size_t lengt
 /* Adds events to the last step. */
 void step_events(struct session *s, const uint8_t *events, size_t count);
 
+/* The step that an event is of, of a session that has events. */
+const struct step *step_of(const struct session *s, size_t event);
+
 /* A number for a step: its line, and in a text that is included one that no other text has. */
 size_t step_number(const struct session *s, const struct step *step);
 

@@ -30,7 +30,7 @@ bool sofar_reach(struct sofar *f, const struct bytes *events)
 
     if (f->refused || f->done == events->length)
         return !f->refused;
-    while (last > f->done && !is_reset(events->data[last - 1]))
+    while (last > f->done && !is_regular_reset(events->data[last - 1]))
         last--;
     if (last > f->done) {
         run_to(f, &f->base, events, last);

@@ -4,11 +4,12 @@
 
 enum { SEARCH_ROM = 0xF0, ROW = 16, CODE_BITS = 64 };
 
+/* The number of slots of one speed from an event on. */
 static size_t slots_from(const uint8_t *events, size_t from, size_t count)
 {
     size_t end = from;
 
-    while (end < count && is_slot(events[end]))
+    while (end < count && is_slot(events[end]) && is_overdrive(events[end]) == is_overdrive(events[from]))
         end++;
     return end - from;
 }
@@ -65,16 +66,33 @@ static void slots_lines(struct bytes *text, const uint8_t *slots, size_t count, 
         bits_line(text, slots + at, count - at, count - at);
 }
 
+/* A line for a reset or a pulse. Returns the speed that the master is at after it. */
+static bool other_line(struct bytes *text, uint8_t event, bool overdrive)
+{
+    if (!is_reset(event)) {
+        bytes_print(text, "pulse\n");
+        return overdrive;
+    }
+    bytes_print(text, is_overdrive(event) ? "overdrive reset\n" : "\nreset\n");
+    return is_overdrive(event);
+}
+
 void text_of_events(struct bytes *text, const uint8_t *events, size_t count)
 {
+    bool overdrive = false;
+
     bytes_print(text, RECORDED_START);
     for (size_t i = 0; i < count;) {
         const size_t slots = slots_from(events, i, count);
 
-        if (slots > 0)
-            slots_lines(text, events + i, slots, i > 0 && is_reset(events[i - 1]));
-        else
-            bytes_print(text, is_reset(events[i]) ? "\nreset\n" : "pulse\n");
-        i += slots > 0 ? slots : 1;
+        if (slots == 0) {
+            overdrive = other_line(text, events[i++], overdrive);
+            continue;
+        }
+        if (overdrive != is_overdrive(events[i]))
+            bytes_print(text, is_overdrive(events[i]) ? "speed overdrive\n" : "speed regular\n");
+        overdrive = is_overdrive(events[i]);
+        slots_lines(text, events + i, slots, i > 0 && is_reset(events[i - 1]));
+        i += slots;
     }
 }

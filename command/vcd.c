@@ -4,33 +4,40 @@
 #include "progress.h"
 
 /* Nominal times in microseconds, each within what the data sheets ask for. */
+struct widths {
+    unsigned slot;
+    unsigned low_one;       /* the master's low of a write-one or read slot */
+    unsigned low_zero;      /* the master's low of a write-zero slot */
+    unsigned low_device;    /* until a device lets go in a read slot */
+    unsigned reset_low;
+    unsigned presence_high; /* until the devices answer a reset */
+    unsigned presence_low;
+    unsigned reset_high;    /* the presence included; decoders want the next slot past it */
+};
+
+static const struct widths regular = { 70, 6, 60, 30, 480, 30, 120, 500 };
+static const struct widths overdrive = { 10, 1, 7, 4, 60, 4, 16, 60 };
+
 enum {
-    LEAD = 1,           /* before the first event, so that its edge is one */
-    IDLE = 100,         /* after the last */
-    SLOT = 70,          /* 60 and the recovery */
-    LOW_ONE = 6,        /* the master's low of a write-one or read slot */
-    LOW_ZERO = 60,      /* the master's low of a write-zero slot */
-    LOW_DEVICE = 30,    /* until a device lets go in a read slot */
-    RESET_LOW = 480,
-    PRESENCE_HIGH = 30, /* until the devices answer a reset */
-    PRESENCE_LOW = 120,
-    RESET_HIGH = 500,   /* the presence included; 480 at least, and decoders want the next slot past it */
-    PULSE_DELAY = 10,   /* before a program pulse, and after it */
+    LEAD = 1,         /* before the first event, so that its edge is one */
+    IDLE = 100,       /* after the last */
+    PULSE_DELAY = 10, /* before a program pulse, and after it */
     PULSE = 480
 };
 
 /* The number of no step. */
 enum { NO_STEP = -1 };
 
-enum { LINE, MASTER, PULSES, MARK, WIRES };
+enum { LINE, MASTER, PULSES, SPEED, MARK, WIRES };
 
 /* Names of signals in the dump: letters that no value starts with. */
-static const char wires[WIRES] = { 'l', 'm', 'p', 'k' };
+static const char wires[WIRES] = { 'l', 'm', 'p', 'o', 'k' };
 static const char steps = 't';
 
 struct dump {
     struct bytes *out;
     int mark;
+    bool overdrive; /* the speed of the last event */
     unsigned long long now;
     unsigned long long stamped; /* the time last written, plus one */
 };
@@ -52,17 +59,18 @@ static void head(struct bytes *out)
 {
     bytes_print(out,
                 VCD_START
-                "$comment 1-Wire at standard speed, nominal widths $end\n"
+                "$comment 1-Wire, nominal widths $end\n"
                 "$timescale 1 us $end\n"
                 "$scope module " VCD_SCOPE " $end\n"
                 "$var wire 1 %c line $end\n"
                 "$var wire 1 %c master $end\n"
                 "$var wire 1 %c pulse $end\n"
+                "$var wire 1 %c overdrive $end\n"
                 "$var wire 1 %c mark $end\n"
                 "$var real 64 %c step $end\n"
                 "$upscope $end\n"
                 "$enddefinitions $end\n",
-                wires[LINE], wires[MASTER], wires[PULSES], wires[MARK], steps);
+                wires[LINE], wires[MASTER], wires[PULSES], wires[SPEED], wires[MARK], steps);
 }
 
 /*
@@ -90,25 +98,25 @@ static void low(struct dump *d, unsigned master, unsigned line, unsigned end)
     d->now = start + end;
 }
 
-static void slot(struct dump *d, uint8_t event, uint8_t answer)
+static void slot(struct dump *d, const struct widths *w, uint8_t event, uint8_t answer)
 {
-    const unsigned master = event == TROUGHIRON_WRITE_ZERO ? LOW_ZERO : LOW_ONE;
-    const unsigned device = answer ? 0 : LOW_DEVICE;
+    const unsigned master = sends_one(event) ? w->low_one : w->low_zero;
+    const unsigned device = answer ? 0 : w->low_device;
 
-    low(d, master, master > device ? master : device, SLOT);
+    low(d, master, master > device ? master : device, w->slot);
 }
 
-static void reset(struct dump *d, uint8_t answer)
+static void reset(struct dump *d, const struct widths *w, uint8_t answer)
 {
-    low(d, RESET_LOW, RESET_LOW, RESET_LOW);
+    low(d, w->reset_low, w->reset_low, w->reset_low);
     if (!answer) {
-        d->now += PRESENCE_HIGH;
+        d->now += w->presence_high;
         set(d, LINE, 0);
-        d->now += PRESENCE_LOW;
+        d->now += w->presence_low;
         set(d, LINE, 1);
-        d->now -= PRESENCE_HIGH + PRESENCE_LOW;
+        d->now -= w->presence_high + w->presence_low;
     }
-    d->now += RESET_HIGH;
+    d->now += w->reset_high;
 }
 
 /* For a logic analyser 12 V is high: the line stays as it is. */
@@ -121,12 +129,23 @@ static void pulse(struct dump *d)
     d->now += PULSE_DELAY;
 }
 
+/* The speed at which the master sends, where it is another than before. */
+static void set_speed(struct dump *d, bool fast)
+{
+    if (d->overdrive != fast)
+        set(d, SPEED, fast);
+    d->overdrive = fast;
+}
+
 static void draw(struct dump *d, uint8_t event, uint8_t answer)
 {
+    const struct widths *const w = is_overdrive(event) ? &overdrive : &regular;
+
+    set_speed(d, is_overdrive(event));
     if (is_slot(event))
-        slot(d, event, answer);
-    else if (event == TROUGHIRON_RESET)
-        reset(d, answer);
+        slot(d, w, event, answer);
+    else if (is_reset(event))
+        reset(d, w, answer);
     else
         pulse(d);
 }
@@ -134,8 +153,8 @@ static void draw(struct dump *d, uint8_t event, uint8_t answer)
 static void start(struct dump *d)
 {
     head(d->out);
-    bytes_print(d->out, "#0\n$dumpvars\n1%c\n1%c\n0%c\n0%c\nr%d %c\n$end\n", wires[LINE], wires[MASTER], wires[PULSES],
-                wires[MARK], NO_STEP, steps);
+    bytes_print(d->out, "#0\n$dumpvars\n1%c\n1%c\n0%c\n0%c\n0%c\nr%d %c\n$end\n", wires[LINE], wires[MASTER],
+                wires[PULSES], wires[SPEED], wires[MARK], NO_STEP, steps);
     d->now = LEAD;
 }
 

@@ -10,9 +10,9 @@
 #define VCD_SCOPE "bench"
 
 /*
- * Adds the waveform to out. Times are in microseconds at standard speed. Signals: line, what the wire does; master,
- * what the master alone does to it; pulse, the program pulse; mark, which changes where a step starts; step, the number
- * of the step.
+ * Adds the waveform to out. Times are in microseconds. Signals: line, what the wire does; master, what the master alone
+ * does to it; pulse, the program pulse; overdrive, the speed of the master; mark, which changes where a step starts;
+ * step, the number of the step.
  */
 void vcd_write(struct bytes *out, const struct session *s, const uint8_t *answers);
 

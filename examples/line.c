@@ -1,4 +1,4 @@
-/* line.c: the library runs whole traces, so each call runs the one since the last reset again. */
+/* line.c: the library runs whole traces, so each call runs that since the regular reset again. */
 #include "line.h"
 
 #include <string.h>
@@ -6,7 +6,7 @@
 /* One event less than a trace can have, so that the reset that ends it has its place. */
 enum { MOST = TROUGHIRON_MOST_EVENTS - 1 };
 
-/* Runs so many events on the image at the last reset. Returns the level after the last of them. */
+/* Runs so many events on the image at the regular reset. Returns the level after the last. */
 static int run(struct line *l, size_t count)
 {
     uint8_t image[LINE_IMAGE];
@@ -57,14 +57,30 @@ int line_reset(struct line *l)
         return level;
     memcpy(l->start, l->image, l->length);
     l->copied_before = l->copied;
+    l->overdrive = 0;
     l->events[0] = TROUGHIRON_RESET;
     l->count = 1;
     return level == 0;
 }
 
+/* No run starts with it, so it goes on with the trace. */
+int line_overdrive_reset(struct line *l)
+{
+    int level = one_more(l, TROUGHIRON_OVERDRIVE_RESET);
+
+    return level < 0 ? level : level == 0;
+}
+
+static uint8_t slot(const struct line *l, int bit)
+{
+    if (l->overdrive)
+        return bit ? TROUGHIRON_OVERDRIVE_ONE : TROUGHIRON_OVERDRIVE_ZERO;
+    return bit ? TROUGHIRON_WRITE_ONE : TROUGHIRON_WRITE_ZERO;
+}
+
 int line_bit(struct line *l, int bit)
 {
-    return one_more(l, bit ? TROUGHIRON_WRITE_ONE : TROUGHIRON_WRITE_ZERO);
+    return one_more(l, slot(l, bit));
 }
 
 int line_byte(struct line *l, uint8_t byte)
@@ -72,7 +88,7 @@ int line_byte(struct line *l, uint8_t byte)
     if (l->count > MOST - 8)
         return -TROUGHIRON_REFUSED_TRACE;
     for (int bit = 0; bit < 8; bit++)
-        l->events[l->count + (size_t)bit] = byte >> bit & 1;
+        l->events[l->count + (size_t)bit] = slot(l, byte >> bit & 1);
 
     int level = run(l, l->count + 8);
 
@@ -87,7 +103,7 @@ int line_read(struct line *l, uint8_t *bytes, size_t count)
         return -TROUGHIRON_REFUSED_TRACE;
     if (count == 0)
         return 0;
-    memset(l->events + from, TROUGHIRON_WRITE_ONE, 8 * count);
+    memset(l->events + from, slot(l, 1), 8 * count);
 
     int level = run(l, from + 8 * count);
 
@@ -109,6 +125,7 @@ int line_open(struct line *l, const uint8_t *image, size_t length)
         l->length = LINE_IMAGE;
     l->count = 0;
     l->copied = l->copied_before = 0;
+    l->overdrive = 0;
     if (l->length > 0)
         memcpy(l->start, image, l->length);
 

@@ -1,18 +1,27 @@
 /*
- * Troughiron: a software bench for 1-Wire memory buttons (DS1992, DS1993, DS1982).
+ * Troughiron: a software bench for 1-Wire memory buttons (DS1992, DS1993, DS1996, DS1982).
  *
  * A bench is an image of bytes. Byte 0 is the number n of devices, 0 to 64, byte 1 the edition, 1 or 2. Then n entries
- * of four bytes follow: family code (08h DS1992, 06h DS1993, 09h DS1982), the state of the battery (0 good; in edition
- * 2 also 1 flat, but not for a DS1982, which has none), the offset of the device's body (low byte first). The bodies
- * follow in the order of the entries, packed, with nothing after the last:
+ * of four bytes follow: family code (08h DS1992, 06h DS1993, 0Ch DS1996, 09h DS1982), the state of the battery (0
+ * good; in edition 2 also 1 flat, but not for a DS1982, which has none), the offset of the device's body (low byte
+ * first). The bodies follow in the order of the entries, packed, with nothing after the last, 65,535 bytes in all at
+ * most:
  *
- *   DS1992, DS1993   8 code bytes, TA1, TA2, E/S, 32 scratchpad bytes, 128 or 512 bytes of memory: 171 or 555 bytes
- *   DS1982           8 code bytes, 8 status bytes, 128 data bytes: 144 bytes
+ *   DS1992, DS1993, DS1996   8 code bytes, TA1, TA2, E/S, 32 scratchpad bytes, 128, 512 or 8,192 bytes of memory: 171,
+ *                            555 or 8,235 bytes
+ *   DS1982                   8 code bytes, 8 status bytes, 128 data bytes: 144 bytes
  *
  * A code is 8 bytes: family code, serial number (low byte first), CRC.
  *
  * A flat device does every ROM function, since its ROM runs from the line, and is found like any other. Where a good
  * one takes a memory command, it waits for a reset and answers ones; its body stays as it is.
+ *
+ * Every run starts at regular speed. A DS1996 goes to overdrive speed with two ROM commands of its own: 3Ch (overdrive
+ * skip ROM), after which it is at the memory command, and 69h (overdrive match ROM), whose 64 code bits come at
+ * overdrive; one that fails this match waits, at regular speed unless it was at overdrive before the command. Events 4,
+ * 5 and 6 are heard by devices at overdrive alone: for one that does not hear an event nothing changes. A regular reset
+ * is heard by all and returns all to regular speed. In a regular slot a device at overdrive answers 1, and then waits
+ * for a regular reset. A flat DS1996 takes its speed from 3Ch and 69h, and then waits.
  *
  * For every function here:
  *   - A slice is a pointer and a length. Any length is fine; a length of 0 may go with a null pointer.
@@ -42,7 +51,10 @@ enum {
     TROUGHIRON_WRITE_ZERO = 0, /* write-zero slot */
     TROUGHIRON_WRITE_ONE = 1,  /* write-one slot, which is also the read slot */
     TROUGHIRON_RESET = 2,      /* reset and presence */
-    TROUGHIRON_PULSE = 3       /* program pulse: only where every device is a DS1982 */
+    TROUGHIRON_PULSE = 3,      /* program pulse: only where every device is a DS1982 */
+    TROUGHIRON_OVERDRIVE_ZERO = 4, /* write-zero slot at overdrive speed */
+    TROUGHIRON_OVERDRIVE_ONE = 5,  /* write-one slot, which is also the read slot, at overdrive speed */
+    TROUGHIRON_OVERDRIVE_RESET = 6 /* reset and presence at overdrive speed */
 };
 
 /* The second byte of an entry. */
@@ -55,13 +67,15 @@ enum {
 enum {
     TROUGHIRON_DS1992 = 0x08,
     TROUGHIRON_DS1993 = 0x06,
+    TROUGHIRON_DS1996 = 0x0C,
     TROUGHIRON_DS1982 = 0x09
 };
 
 /*
- * E/S of a DS1992 or DS1993: three flags, and the ending offset in the bits below them. A copy (55h) takes the three
- * registers as they are: write scratchpad (0Fh) loads TA1, TA2 and E/S, and read memory (F0h) loads TA1 and TA2 too,
- * on its 16th address bit, and leaves E/S. So after a read of memory the pattern from before it may no longer match.
+ * E/S of a DS1992, DS1993 or DS1996: three flags, and the ending offset in the bits below them. A copy (55h) takes the
+ * three registers as they are: write scratchpad (0Fh) loads TA1, TA2 and E/S, and read memory (F0h) loads TA1 and TA2
+ * too, on its 16th address bit, and leaves E/S. So after a read of memory the pattern from before it may no longer
+ * match.
  */
 enum {
     TROUGHIRON_ES_AA = 0x80,     /* authorization accepted: the scratchpad was copied */
@@ -83,17 +97,18 @@ enum {
     TROUGHIRON_REFUSED_NO_RESET = 11
 };
 
-/* The most events of a trace, and the most devices of an image. */
+/* The most events of a trace, and the most devices and bytes of an image. */
 #define TROUGHIRON_MOST_EVENTS 32768
 #define TROUGHIRON_MOST_DEVICES 64
+#define TROUGHIRON_MOST_BYTES 65535
 
 /*
  * Runs a trace on the devices of an image. Every device waits for a reset at the start.
  *
  * Returns 0 where the run is answered. Then
- *   - answers[i], for each event i, is the level after it: of a slot 0 if the trace sends 0 or any device pulls low,
- *     else 1; of a reset 0 if there is a device, else 1; of a pulse 1. Bytes of answers past the trace are as they
- *     were.
+ *   - answers[i], for each event i, is the level after it: of a slot 0 if the trace sends 0 or any device that hears
+ *     it pulls low, else 1; of a reset 0 if a device hears it, else 1; of a pulse 1. Bytes of answers past the trace
+ *     are as they were.
  *   - the bodies in image are as the devices are left: registers, flags, scratchpads, memory, status. All else of it is
  *     as it was.
  *   - *copied is the number of bytes that all accepted copies (55h) of the trace wrote to memory. A copy of nothing
@@ -103,11 +118,11 @@ enum {
  * is there in this list, whose order is not that of the numbers:
  *   1  image shorter than 2 + 4n, n over 64, edition neither 1 nor 2, an unknown family, or a second entry byte that
  *      is nonzero in edition 1, over 1 in edition 2, or 1 for a DS1982
- *   2  an offset or the image's length differs from the packed layout
+ *   2  image of over 65,535 bytes, or an offset or the image's length differs from the packed layout
  *   3  a code's CRC is wrong, or its family byte is not its entry's
  *   4  two devices have the same code
- *   5  trace of over 32,768 events, or with a byte over 3
- *  11  trace that is not empty and does not begin with a reset
+ *   5  trace of over 32,768 events, or with a byte over 6
+ *  11  trace that is not empty and does not begin with a reset at regular speed, event 2
  *   6  a program pulse in the trace while some device is not a DS1982
  *   7  answers shorter than the trace
  *

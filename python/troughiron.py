@@ -24,20 +24,21 @@ from typing import Iterable, Union
 Bytes = Union[bytes, bytearray, memoryview]
 
 WRITE_ZERO, WRITE_ONE, RESET, PULSE = 0, 1, 2, 3
-DS1992, DS1993, DS1982 = 0x08, 0x06, 0x09
+OVERDRIVE_ZERO, OVERDRIVE_ONE, OVERDRIVE_RESET = 4, 5, 6
+DS1992, DS1993, DS1996, DS1982 = 0x08, 0x06, 0x0C, 0x09
 ES_AA, ES_OF, ES_PF, ES_ENDING = 0x80, 0x40, 0x20, 0x1F
-MOST_EVENTS, MOST_DEVICES = 32768, 64
+MOST_EVENTS, MOST_DEVICES, MOST_BYTES = 32768, 64, 65535
 GOOD, FLAT = 0, 1
 
 _CAUSES = {
     1: "the table of contents",
-    2: "the layout of the image",
+    2: "the layout of the image, or its length",
     3: "a code's CRC or family",
     4: "two devices with the same code",
     5: "the trace: too long, or a byte that is no event",
     6: "a program pulse while some device is not a DS1982",
     7: "too little room",
-    11: "a trace that does not begin with a reset",
+    11: "a trace that does not begin with a reset at regular speed",
 }
 
 

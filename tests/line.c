@@ -46,7 +46,10 @@ static uint8_t crc8(const uint8_t *bytes, size_t count)
 
 static size_t body_size(uint8_t family)
 {
-    return family == TROUGHIRON_DS1992 ? 171 : family == TROUGHIRON_DS1993 ? 555 : 144;
+    return family == TROUGHIRON_DS1992   ? 171
+           : family == TROUGHIRON_DS1993 ? 555
+           : family == TROUGHIRON_DS1996 ? 8235
+                                         : 144;
 }
 
 static size_t new_image(uint8_t *image, const uint8_t *families, size_t count)
@@ -104,9 +107,23 @@ static void reset(void)
     keep(TROUGHIRON_RESET, !presence);
 }
 
+static void overdrive_reset(void)
+{
+    const int presence = line_overdrive_reset(&host.line);
+
+    check(presence == 0 || presence == 1, "no presence at overdrive");
+    keep(TROUGHIRON_OVERDRIVE_RESET, !presence);
+}
+
+/* A slot at the speed of the line. */
+static uint8_t slot(int value)
+{
+    return (uint8_t)((host.line.overdrive ? TROUGHIRON_OVERDRIVE_ZERO : TROUGHIRON_WRITE_ZERO) + value);
+}
+
 static void bit(int value)
 {
-    keep((uint8_t)value, line_bit(&host.line, value));
+    keep(slot(value), line_bit(&host.line, value));
 }
 
 static void byte(uint8_t value)
@@ -115,7 +132,7 @@ static void byte(uint8_t value)
 
     check(levels >= 0, "a byte is refused");
     for (int i = 0; i < 8; i++)
-        keep(value >> i & 1, levels >> i & 1);
+        keep(slot(value >> i & 1), levels >> i & 1);
 }
 
 static void read_bytes(size_t count)
@@ -124,7 +141,7 @@ static void read_bytes(size_t count)
 
     check(line_read(&host.line, bytes, count) == 0, "a read is refused");
     for (size_t i = 0; i < 8 * count; i++)
-        keep(TROUGHIRON_WRITE_ONE, bytes[i / 8] >> i % 8 & 1);
+        keep(slot(1), bytes[i / 8] >> i % 8 & 1);
 }
 
 static void pulse(void)
@@ -181,7 +198,12 @@ static void address_device(void)
         byte(0xCC);
         return;
     }
-    byte(0x55);
+    if (below(2)) {
+        byte(below(2) ? 0x69 : 0x3C);
+        host.line.overdrive = 1;
+    } else {
+        byte(0x55);
+    }
     for (int i = 0; i < 8; i++)
         byte(code[i]);
 }
@@ -221,8 +243,12 @@ static void command(int pulses)
 
 static void transaction(int pulses)
 {
-    if (host.count == 0 || below(20) > 0)
+    if (host.count == 0 || below(20) > 8)
         reset();
+    else if (below(4) > 0)
+        overdrive_reset();
+    if (below(30) == 0)
+        host.line.overdrive = !host.line.overdrive;
     if (below(10) > 0)
         address_device();
     if (below(10) > 0)
@@ -237,7 +263,7 @@ static void transaction(int pulses)
 
 static void random_session(uint64_t seed)
 {
-    static const uint8_t all[] = { TROUGHIRON_DS1992, TROUGHIRON_DS1993, TROUGHIRON_DS1982 };
+    static const uint8_t all[] = { TROUGHIRON_DS1992, TROUGHIRON_DS1993, TROUGHIRON_DS1996, TROUGHIRON_DS1982 };
     uint8_t families[DEVICES];
 
     state = seed;
@@ -246,7 +272,7 @@ static void random_session(uint64_t seed)
     const size_t devices = 1 + below(DEVICES);
 
     for (size_t i = 0; i < devices; i++)
-        families[i] = pulses ? TROUGHIRON_DS1982 : all[below(3)];
+        families[i] = pulses ? TROUGHIRON_DS1982 : all[below(4)];
     open_bench(families, devices);
     while (host.count < SESSION)
         transaction(pulses);
@@ -272,6 +298,7 @@ static void at_the_end(void)
     check(line_read(l, bytes, sizeof bytes) == -TROUGHIRON_REFUSED_TRACE, "a read past the end is not reported");
     check(line_read(l, bytes, SIZE_MAX) == -TROUGHIRON_REFUSED_TRACE, "a read without end is not reported");
     check(line_pulse(l) == -TROUGHIRON_REFUSED_TRACE, "a pulse past the end is not reported");
+    check(line_overdrive_reset(l) == -TROUGHIRON_REFUSED_TRACE, "a reset at overdrive past the end is not reported");
     check(memcmp(bytes, kept, sizeof bytes) == 0, "a refused read wrote bytes");
     check(memcmp(l, &before, sizeof before) == 0, "what was refused changed the line");
 }
@@ -338,6 +365,7 @@ static void before_a_reset(void)
     check(line_read(l, bytes, sizeof bytes) == refused, "a read before a reset is not refused");
     check(bytes[0] == 0x5A && bytes[1] == 0x5A, "a refused read wrote bytes");
     check(line_pulse(l) == refused, "a pulse before a reset is refused for its device");
+    check(line_overdrive_reset(l) == refused, "a reset at overdrive before a regular one is not refused");
     compare();
     reset();
     byte(0x33);

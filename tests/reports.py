@@ -11,6 +11,11 @@ def load(name):
         return file.read()
 
 
+def levels_of(events):
+    """What the master sends in slots of either speed."""
+    return events.translate(str.maketrans("45", "01"))
+
+
 def bits_of(digits):
     """The levels that bytes spell, least significant bit first."""
     return "".join(format(byte, "08b")[::-1] for byte in bytes.fromhex(digits))
@@ -48,7 +53,7 @@ def check_steps(run, name):
         assert step.get("first", first) == first, step
         first += len(step.get("events", ""))
         if "sent" in step:
-            assert bits_of(step["sent"]) == step["events"], step
+            assert bits_of(step["sent"]) == levels_of(step["events"]), step
             assert bits_of(step["answered"]) == step["answers"], step
         if "events" in step or "note" in step:
             assert f"\n{step['line']:5}  {step['text']}" in report, step
@@ -105,7 +110,8 @@ class Page(html.parser.HTMLParser):
         for name, value in attrs:
             assert name not in ("src", "href"), value
         if tag == "figure":
-            self.figures.append({"line": "", "held": "", "sent": "", "answered": ""})
+            fast = ("data-fast", None) in attrs
+            self.figures.append({"line": "", "held": "", "sent": "", "answered": "", "fast": fast})
         if tag == "span" and ("class", "step") in self.outer:
             self.labels.append("")
         self.outer = attrs
@@ -145,10 +151,11 @@ def drawn(figure):
     found, held = lows(figure["line"]), len(re.findall("M", figure["held"]))
     if found[0][1] > 20:
         assert (len(found) == 2) == (held == 1), figure
-        return "2", "01"[len(found) == 1]
+        return "26"[figure["fast"]], "01"[len(found) == 1]
     widths = [width for _, width in found]
     assert held == widths.count(8) and not set(widths) - {3, 8, 10}, figure
-    return "".join("0" if width == 10 else "1" for width in widths), "".join("01"[width == 3] for width in widths)
+    digits = "45" if figure["fast"] else "01"
+    return "".join(digits[width != 10] for width in widths), "".join("01"[width == 3] for width in widths)
 
 
 def check_page(name):
@@ -164,13 +171,14 @@ def check_page(name):
     for figure in page.figures:
         events, answers = drawn(figure)
         if len(events) == 8:
-            assert bits_of(figure["sent"]) == events and bits_of(figure["answered"]) == answers, figure
-        elif figure["answered"] in ("presence", "no presence"):
-            assert events == "2" and answers == "01"[figure["answered"] == "no presence"], figure
+            assert bits_of(figure["sent"]) == levels_of(events) and bits_of(figure["answered"]) == answers, figure
+        elif figure["answered"].endswith("presence"):
+            assert events == "26"[figure["answered"].startswith("overdrive ")], figure
+            assert answers == "01"[figure["answered"].endswith("no presence")], figure
         elif figure["answered"] == "pulse":
             assert events == "3", figure
         else:
-            assert (figure["sent"], figure["answered"]) == (events, answers), figure
+            assert (figure["sent"], figure["answered"]) == (levels_of(events), answers), figure
     told = [f"{step['line']} {step['text']}" for step in run["steps"] if "events" in step]
     assert [label for i, label in enumerate(page.labels) if i == 0 or label != page.labels[i - 1]] \
         == [label for i, label in enumerate(told) if i == 0 or label != told[i - 1]], name
@@ -199,7 +207,7 @@ def check_show(name):
                 told = {"page": page, "protected": not status[0] >> page & 1, "redirected": to if to else None}
                 assert device["pages"][page] == told, told
         assert device["flat"] == (image[4 * number - 1] == 1), device
-        assert device["kind"] == {8: "DS1992", 6: "DS1993", 9: "DS1982"}[image[4 * number - 2]], device
+        assert device["kind"] == {8: "DS1992", 6: "DS1993", 12: "DS1996", 9: "DS1982"}[image[4 * number - 2]], device
         bodies += body
     assert len(shown["devices"]) == image[0] and shown["bytes"] == len(image)
     assert image[2 + 4 * image[0]:] == bodies

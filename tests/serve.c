@@ -1,9 +1,10 @@
 /*
  * A host that drives 1-Wire devices through a serial adapter, for tests/serve: it knows a terminal, an adapter and the
  * 1-Wire protocol, and nothing of the bench.
- *   serve ds9097|ds2480b TERMINAL search|store|skip|read|half
+ *   serve ds9097|ds2480b TERMINAL search|store|skip|read|half|overdrive
  * search prints the codes that are found; store writes a byte to 0026h of the first device and copies it; skip does so
- * with every device at once; read prints that byte of the first device; half leaves off within a byte and is killed.
+ * with every device at once; read prints that byte of the first device; half leaves off within a byte and is killed;
+ * overdrive stores a byte and prints it at that speed.
  */
 #include <fcntl.h>
 #include <poll.h>
@@ -15,10 +16,11 @@
 #include <termios.h>
 #include <unistd.h>
 
-enum { CODE = 8, MOST = 64, SKIP = 0xCC, MATCH = 0x55, SEARCH = 0xF0 };
+enum { CODE = 8, MOST = 64, SKIP = 0xCC, MATCH = 0x55, SEARCH = 0xF0, OVERDRIVE_SKIP = 0x3C };
 
 static int port;
 static int active; /* the adapter is a DS2480B */
+static int fast;   /* the speed of the line is overdrive */
 
 static void stop(const char *why)
 {
@@ -80,13 +82,13 @@ static int passive_slot(int bit)
 
 static int active_reset(void)
 {
-    put(0xC1);
+    put(fast ? 0xC9 : 0xC1);
     return (get() & 3) == 1;
 }
 
 static int active_slot(int bit)
 {
-    put(bit ? 0x91 : 0x81);
+    put((uint8_t)((bit ? 0x91 : 0x81) | (fast ? 0x08 : 0)));
     return get() & 1;
 }
 
@@ -257,6 +259,23 @@ static void read_back(const uint8_t *code)
     reset();
 }
 
+/* Overdrive skip ROM, then all at overdrive; at the end a regular reset, after which nobody is there. */
+static void overdrive(const uint8_t *code)
+{
+    if (!reset())
+        stop("no presence");
+    byte(OVERDRIVE_SKIP);
+    fast = 1;
+    store(code, 'C');
+    read_back(code);
+    fast = 0;
+    reset();
+    fast = 1;
+    puts(reset() ? "at overdrive" : "at regular speed");
+    fast = 0;
+    reset();
+}
+
 static void print_codes(uint8_t codes[MOST][CODE], size_t count)
 {
     for (size_t i = 0; i < count; i++) {
@@ -305,5 +324,7 @@ int main(int argc, char **argv)
         store(NULL, 'B');
     else if (strcmp(argv[3], "read") == 0)
         read_back(codes[0]);
+    else if (strcmp(argv[3], "overdrive") == 0)
+        overdrive(codes[0]);
     return close(port) == 0 ? 0 : 1;
 }

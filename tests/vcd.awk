@@ -4,6 +4,9 @@
 #   reset 480 us low or more; presence: 15 to 60 us high, then 60 to 240 us low
 #   slot: up to 15 us low a one; 60 to 120 us a zero of the master; between them a zero of a device
 #   program pulse: 480 us or more on the signal "pulse"
+# and where the signal "overdrive" is high
+#   reset 48 to 80 us low; presence: 2 to 6 us high, then 8 to 24 us low
+#   slot: up to 2 us low a one; 6 to 16 us a zero of the master; between them a zero of a device
 # The first event comes 1 us after the start, "mark" changes with each number of "step", and there is nothing in the
 # dump that sigrok warns of.
 
@@ -13,31 +16,47 @@ function wrong(what) {
     exit 1
 }
 
+# The widths of a speed, each from a least to a most: of the rest after a reset, presence, slots.
+function widths(fast) {
+    reset_least = fast ? 48 : 480
+    high_least = fast ? 2 : 15; high_most = fast ? 6 : 60
+    low_least = fast ? 8 : 60; low_most = fast ? 24 : 240
+    one_most = fast ? 2 : 15
+    zero_least = fast ? 6 : 60; zero_most = fast ? 16 : 120
+}
+
 # A reset whose presence did not come is answered 1.
 function close_reset() {
-    if (reset_seen) print "2 1"
+    if (reset_seen) print reset_seen " 1"
     reset_seen = 0
 }
 
 function presence(width) {
-    if (fell - rose < 15 || fell - rose > 60) wrong("presence " (fell - rose) " us after a reset")
-    if (width < 60 || width > 240) wrong("presence of " width " us")
-    print "2 0"
+    if (fell - rose < high_least || fell - rose > high_most) wrong("presence " (fell - rose) " us after a reset")
+    if (width < low_least || width > low_most) wrong("presence of " width " us")
+    print reset_seen " 0"
     reset_seen = 0
-    quiet_until = rose + 480
+    quiet_until = rose + reset_least
+}
+
+function slot(width) {
+    if (width >= 1 && width <= one_most) print (fast ? "5 1" : "1 1")
+    else if (width > one_most && width < zero_least) print (fast ? "5 0" : "1 0")
+    else if (width >= zero_least && width <= zero_most) print (fast ? "4 0" : "0 0")
+    else wrong("low for " width " us")
+    quiet_until = fell + zero_least + 1
 }
 
 # The line went low at fell and high now.
 function low(width) {
-    if (reset_seen && fell - rose < 480) { presence(width); return }
+    if (reset_seen && fell - rose < reset_least) { presence(width); return }
     close_reset()
+    widths(fast)
     if (fell < quiet_until) wrong("the line falls " (quiet_until - fell) " us too early")
-    if (width >= 480) { rose = now; reset_seen = 1; return }
-    if (width >= 1 && width <= 15) print "1 1"
-    else if (width > 15 && width < 60) print "1 0"
-    else if (width >= 60 && width <= 120) print "0 0"
-    else wrong("low for " width " us")
-    quiet_until = fell + 61
+    if (width < reset_least) { slot(width); return }
+    if (fast && width > 80) wrong("a reset of " width " us at overdrive")
+    rose = now
+    reset_seen = fast ? 6 : 2
 }
 
 $1 == "$timescale" { if ($2 != "1" || $3 != "us") { now = 0; wrong("timescale " $2 $3) } }
@@ -59,6 +78,7 @@ $1 == "$enddefinitions" { body = 1 }
     level = substr($0, 1, 1)
     if (now > 0 && !begun && now != 1) wrong("the first event comes late")
     if (now > 0) begun = 1
+    if (signal == "overdrive") fast = level == 1
     if (signal == "mark" && level != mark) { marks += mark != ""; mark = level }
     if (signal == "line" && level != line) {
         if (level == 0) fell = now

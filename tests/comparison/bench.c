@@ -7,21 +7,24 @@
 
 const char *kind_name(enum kind kind)
 {
-    static const char *const names[KINDS] = { "DS1992", "DS1993", "DS1982" };
+    static const char *const names[KINDS] = { "DS1992", "DS1993", "DS1996",
+                                              "DS1982" };
 
     return names[kind];
 }
 
 uint8_t kind_family(enum kind kind)
 {
-    static const uint8_t families[KINDS] = { 0x08, 0x06, 0x09 };
+    static const uint8_t families[KINDS] = { 0x08, 0x06, 0x0C, 0x09 };
 
     return families[kind];
 }
 
 size_t kind_memory_bytes(enum kind kind)
 {
-    return kind == DS1993 ? 512 : 128;
+    static const size_t bytes[KINDS] = { 128, 512, 8192, DATA_BYTES };
+
+    return bytes[kind];
 }
 
 size_t kind_body_bytes(enum kind kind)
@@ -63,6 +66,33 @@ int code_order(const void *left, const void *right)
 
 /* ------------------------------------------------------------------ */
 /* Layout and contents                                                 */
+
+static size_t bytes_of(const enum kind *kinds, size_t count)
+{
+    size_t bytes = TABLE;
+
+    for (size_t i = 0; i < count; i++)
+        bytes += ENTRY_BYTES + kind_body_bytes(kinds[i]);
+    return bytes;
+}
+
+void kinds_within(enum kind *kinds, size_t count, size_t bytes)
+{
+    size_t now = bytes_of(kinds, count);
+
+    for (size_t i = count; i > 0 && now > bytes; i--)
+        if (kinds[i - 1] == DS1996) {
+            kinds[i - 1] = DS1992;
+            now -= kind_body_bytes(DS1996) - kind_body_bytes(DS1992);
+        }
+}
+
+void kinds_of_crowd(enum kind *kinds, size_t count, size_t way)
+{
+    for (size_t i = 0; i < count; i++)
+        kinds[i] = (enum kind)(way < KINDS ? way : i % KINDS);
+    kinds_within(kinds, count, MOST_IMAGE_BYTES);
+}
 
 void bench_lay_out(struct bench *b, const enum kind *kinds, size_t count)
 {

@@ -8,12 +8,14 @@
 #include <stdint.h>
 #include <stdio.h>
 
-enum kind { DS1992, DS1993, DS1982, KINDS };
+/* Those with a scratchpad come first. */
+enum kind { DS1992, DS1993, DS1996, SRAM_KINDS, DS1982 = SRAM_KINDS, KINDS };
 
 enum {
     MOST_DEVICES = 64,
     MOST_ENTRIES = 255, /* what the count can say, accepted or not */
-    BENCH_ROOM = 40960
+    MOST_IMAGE_BYTES = 65535, /* of an accepted image */
+    BENCH_ROOM = 80 * 1024
 };
 
 /* Where things are in an image. */
@@ -25,7 +27,7 @@ enum {
     CODE_BYTES = 8,
     CODE_BITS = 64,
     PAGE_BYTES = 32,
-    /* in the body of a DS1992 or DS1993 */
+    /* in the body of a DS1992, DS1993 or DS1996 */
     TA1 = CODE_BYTES,
     TA2 = TA1 + 1,
     ES = TA2 + 1,
@@ -65,7 +67,19 @@ void code_write(uint8_t *code, uint8_t family, uint64_t serial);
 /* Which of two codes is found first, for qsort: bit 0 first, 0 before 1. */
 int code_order(const void *left, const void *right);
 
-/* An accepted image of edition 1, all batteries good; the bodies are zero. */
+/*
+ * Replaces DS1996, the last of them first, until an image of these devices has
+ * so many bytes at most.
+ */
+void kinds_within(enum kind *kinds, size_t count, size_t bytes);
+
+/*
+ * So many devices by one number: all of one kind, or, one past the last kind,
+ * of every kind in turn.  DS1996 are as many as an image can hold.
+ */
+void kinds_of_crowd(enum kind *kinds, size_t count, size_t way);
+
+/* An image of edition 1, all batteries good; the bodies are zero. */
 void bench_lay_out(struct bench *b, const enum kind *kinds, size_t count);
 
 /* Makes a bench one of edition 2, all batteries as they are. */

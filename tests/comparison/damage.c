@@ -20,24 +20,27 @@ static int trace_too_long(struct run_case *c, size_t choice)
     return 1;
 }
 
-static int byte_over_3(struct run_case *c, size_t choice)
+static int byte_over_6(struct run_case *c, size_t choice)
 {
     size_t place;
 
     if (c->trace.length == 0)
         return 0;
     place = digit(&choice, c->trace.length);
-    c->trace.events[place] = (uint8_t)(4 + digit(&choice, 252));
+    c->trace.events[place] = (uint8_t)(NO_EVENT + digit(&choice, 249));
     return 1;
 }
 
 static int no_reset_first(struct run_case *c, size_t choice)
 {
-    static const enum event events[] = { WRITE_ZERO, WRITE_ONE, PULSE };
+    static const enum event events[] = { WRITE_ZERO,     WRITE_ONE,
+                                         PULSE,          OVERDRIVE_ZERO,
+                                         OVERDRIVE_ONE,  OVERDRIVE_RESET };
+    const size_t count = sizeof events / sizeof *events;
 
     if (c->trace.length == 0)
         return 0;
-    c->trace.events[0] = (uint8_t)events[digit(&choice, 3)];
+    c->trace.events[0] = (uint8_t)events[digit(&choice, count)];
     return 1;
 }
 
@@ -66,7 +69,7 @@ static const struct {
     int (*act)(struct run_case *, size_t);
 } damages[] = {
     { 5, trace_too_long },
-    { 5, byte_over_3 },
+    { 5, byte_over_6 },
     { 11, no_reset_first },
     { 6, pulse_refused },
     { 7, answers_short },

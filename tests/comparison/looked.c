@@ -40,10 +40,9 @@ static void *looked_create(void)
 /* So many devices by one digit: all of one kind, or of every kind. */
 static void bench_of_kinds(struct bench *b, size_t way, size_t count)
 {
-    enum kind kinds[MOST_DEVICES];
+    enum kind kinds[MOST_DEVICES] = { DS1992 };
 
-    for (size_t i = 0; i < count; i++)
-        kinds[i] = (enum kind)(way < KINDS ? way : i % KINDS);
+    kinds_of_crowd(kinds, count, way);
     bench_make(b, kinds, count, count);
 }
 
@@ -159,6 +158,11 @@ static const struct {
     { "looked_refusals_in_pairs", NULL, "refusals_in_pairs" },
     { "looked_first_events", NULL, "first_events" },
     { "looked_short_traces", NULL, "short_traces" },
+    { "looked_cuts_overdrive", NULL, "cuts_overdrive" },
+    { "looked_cuts_side_by_side", NULL, "cuts_side_by_side" },
+    { "looked_overdrive_pairs", NULL, "overdrive_pairs" },
+    { "looked_overdrive_matches", NULL, "overdrive_matches" },
+    { "looked_large_images", NULL, "large_images" },
 };
 
 static const char *looked_group(size_t group)

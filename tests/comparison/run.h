@@ -23,6 +23,14 @@ struct run_case {
     int null;          /* whether an empty buffer is a null pointer */
 };
 
+/*
+ * Benches of the small cases, whose registers a copy can act on.  One device
+ * is of edition 1, of edition 2 and good, or of edition 2 and flat if it can.
+ */
+enum { BATTERIES_OF_ONE = 3 };
+void bench_of(struct run_case *c, const enum kind *kinds, size_t count);
+void bench_of_one_with(struct run_case *c, enum kind kind, size_t batteries);
+
 /* The small cases; NULL and 0 past the last, as in struct subject. */
 const char *run_small_group(size_t group);
 int run_small_case(struct run_case *c, size_t group, size_t number);

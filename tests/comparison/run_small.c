@@ -7,6 +7,7 @@
 
 #include "damage.h"
 #include "room.h"
+#include "run_overdrive.h"
 
 /* ------------------------------------------------------------------ */
 /* Benches                                                             */
@@ -30,7 +31,7 @@ static void set_registers(struct bench *b)
     }
 }
 
-static void bench_of(struct run_case *c, const enum kind *kinds, size_t count)
+void bench_of(struct run_case *c, const enum kind *kinds, size_t count)
 {
     bench_make(&c->bench, kinds, count, count);
     set_registers(&c->bench);
@@ -41,11 +42,7 @@ static void bench_of_one(struct run_case *c, enum kind kind)
     bench_of(c, &kind, 1);
 }
 
-/* Edition 1; edition 2 and good; edition 2 and flat, where it can be. */
-enum { BATTERIES_OF_ONE = 3 };
-
-static void bench_of_one_with(struct run_case *c, enum kind kind,
-                              size_t batteries)
+void bench_of_one_with(struct run_case *c, enum kind kind, size_t batteries)
 {
     bench_of_one(c, kind);
     bench_set_batteries(&c->bench, batteries);
@@ -59,7 +56,7 @@ static void bench_of_one_or_none(struct run_case *c, size_t kind)
     bench_of(c, &one, kind < KINDS);
 }
 
-/* A bench of two; the first kind is the last digit of a number under 9. */
+/* A bench of two; the first kind is the last digit of a number. */
 static void bench_of_two(struct run_case *c, size_t number)
 {
     const enum kind kinds[] = { (enum kind)(number % KINDS),
@@ -191,6 +188,17 @@ static void eprom_session(struct trace *t, const uint8_t *code)
     program(t, WRITE_STATUS, 0x0000, 0xFB, 0x0F);
     program(t, WRITE_DATA, 0x0040, 0x00, 0x00);
     rom_session(t, code);
+}
+
+/* The same at overdrive, which one command brings all DS1996 to. */
+static void overdrive_session(struct trace *t, const uint8_t *code)
+{
+    size_t from;
+
+    trace_overdrive_skip(t);
+    from = t->length;
+    sram_session(t, code);
+    trace_hurry(t, from);
 }
 
 static void typical_session(struct run_case *c, enum kind kind)
@@ -416,6 +424,7 @@ static int addresses(struct run_case *c, size_t number)
         uint8_t command;
     } uses[] = { { DS1992, READ_MEMORY },       { DS1992, WRITE_SCRATCHPAD },
                  { DS1993, READ_MEMORY },       { DS1993, WRITE_SCRATCHPAD },
+                 { DS1996, READ_MEMORY },       { DS1996, WRITE_SCRATCHPAD },
                  { DS1982, READ_DATA },         { DS1982, READ_STATUS },
                  { DS1982, READ_DATA_BY_PAGE }, { DS1982, WRITE_DATA },
                  { DS1982, WRITE_STATUS } };
@@ -427,7 +436,7 @@ static int addresses(struct run_case *c, size_t number)
     return number == 0;
 }
 
-/* From every address to the end of the device, and on. */
+/* From every address to the end of the device, or every late one, and on. */
 static int reads_to_the_end(struct run_case *c, size_t number)
 {
     static const struct {
@@ -435,17 +444,19 @@ static int reads_to_the_end(struct run_case *c, size_t number)
         uint8_t command;
     } uses[] = { { DS1992, READ_MEMORY },
                  { DS1993, READ_MEMORY },
+                 { DS1996, READ_MEMORY },
                  { DS1982, READ_DATA },
                  { DS1982, READ_STATUS },
                  { DS1982, READ_DATA_BY_PAGE } };
     const size_t use = digit(&number, sizeof uses / sizeof *uses);
-    const size_t address = digit(&number, 512 + PAGE_BYTES);
     const size_t size = kind_memory_bytes(uses[use].kind);
-    const size_t crcs = 5;
+    const size_t first = size > 512 ? size - 512 : 0;
+    const size_t address = first + digit(&number, 512 + PAGE_BYTES);
+    const size_t left = size - address % size, crcs = 5;
 
     bench_of_one(c, uses[use].kind);
     read_from(&c->trace, uses[use].command, (uint16_t)address,
-              8 * (size - address % size + crcs) + 20);
+              8 * ((left > 512 ? 512 : left) + crcs) + 20);
     return number == 0;
 }
 
@@ -479,7 +490,7 @@ static void after_read(struct trace *t, uint16_t address, size_t way)
 static int read_targets(struct run_case *c, size_t number)
 {
     enum { ADDRESS_BITS = 16, SLOTS = 9 };
-    const enum kind kind = (enum kind)digit(&number, 2);
+    const enum kind kind = (enum kind)digit(&number, SRAM_KINDS);
     const uint16_t address = some_target(&number);
     const size_t way = digit(&number, 4);
     const size_t bits = digit(&number, ADDRESS_BITS + SLOTS + 1);
@@ -496,7 +507,7 @@ static int read_targets(struct run_case *c, size_t number)
 /* The scratchpad read from every offset to its end, and on. */
 static int scratchpad_reads(struct run_case *c, size_t number)
 {
-    const enum kind kind = (enum kind)digit(&number, 2);
+    const enum kind kind = (enum kind)digit(&number, SRAM_KINDS);
     const size_t ta1 = digit(&number, 256);
 
     bench_of_one(c, kind);
@@ -521,7 +532,7 @@ static void some_bits(struct trace *t, uint64_t which, size_t count)
 static int data_bits(struct run_case *c, size_t number)
 {
     const size_t which = number;
-    const enum kind kind = (enum kind)digit(&number, 2);
+    const enum kind kind = (enum kind)digit(&number, SRAM_KINDS);
     const int reset = digit(&number, 2) == 0;
     const size_t offset = digit(&number, PAGE_BYTES);
     const size_t count = digit(&number, 301);
@@ -537,7 +548,7 @@ static int data_bits(struct run_case *c, size_t number)
 /* Every offset with every E/S, in pages within memory and past it. */
 static int copies(struct run_case *c, size_t number)
 {
-    const enum kind kind = (enum kind)digit(&number, 2);
+    const enum kind kind = (enum kind)digit(&number, SRAM_KINDS);
     const uint8_t mask = digit(&number, 2) == 0 ? 0xFF : 0x1F;
     const size_t page = digit(&number, 4);
     const size_t offset = digit(&number, PAGE_BYTES);
@@ -559,13 +570,14 @@ static int copies(struct run_case *c, size_t number)
 
 /*
  * Two devices that copy at once, and again: every offset and ending offset, in
- * pages that both have, that only a DS1993 has, and that none has.
+ * pages that both have, that only a larger one has, and that none has.
  */
 static int copies_of_two(struct run_case *c, size_t number)
 {
-    static const uint16_t pages[] = { 0x0020, 0x0060, 0x0080, 0x01E0, 0x0200 };
-    const enum kind kinds[] = { (enum kind)digit(&number, 2),
-                                (enum kind)digit(&number, 2) };
+    static const uint16_t pages[] = { 0x0020, 0x0060, 0x0080, 0x01E0,
+                                      0x0200, 0x1FE0, 0x2000 };
+    const enum kind kinds[] = { (enum kind)digit(&number, SRAM_KINDS),
+                                (enum kind)digit(&number, SRAM_KINDS) };
     const size_t page = digit(&number, sizeof pages / sizeof *pages);
     const uint16_t target =
         (uint16_t)(pages[page] + digit(&number, PAGE_BYTES));
@@ -643,78 +655,27 @@ static int programming_slots(struct run_case *c, size_t number)
 /* ------------------------------------------------------------------ */
 /* Cuts                                                                */
 
-enum {
-    ENDS_THERE,
-    RESET_ENDS,
-    RESET_THERE,
-    ZERO_THERE,
-    ONE_THERE,
-    PULSE_THERE,
-    LEFT_OUT,
-    WAYS_TO_CUT
-};
-
-static void insert(struct trace *t, size_t place, enum event event)
+/* A session that ends, is reset, gets an event too many or lacks one. */
+static int cut_anywhere(struct run_case *c, size_t number)
 {
-    for (size_t i = t->length; i > place; i--)
-        t->events[i] = t->events[i - 1];
-    t->events[place] = (uint8_t)event;
-    t->length++;
+    const enum cut way = (enum cut)digit(&number, WAYS_TO_CUT);
+    const size_t place = digit(&number, c->trace.length + 1);
+
+    trace_cut(&c->trace, way, place);
+    if (c->trace.length > 0 && c->trace.events[0] != RESET)
+        c->expected = 11;
+    else if (way == PULSE_THERE && !bench_takes_pulses(&c->bench))
+        c->expected = 6;
+    return number == 0;
 }
 
-static void leave_out(struct trace *t, size_t place)
-{
-    if (place == t->length)
-        return;
-    t->length--;
-    for (size_t i = place; i < t->length; i++)
-        t->events[i] = t->events[i + 1];
-}
-
-static void cut(struct trace *t, size_t way, size_t place)
-{
-    switch (way) {
-    case RESET_THERE:
-        insert(t, place, RESET);
-        break;
-    case ZERO_THERE:
-        insert(t, place, WRITE_ZERO);
-        break;
-    case ONE_THERE:
-        insert(t, place, WRITE_ONE);
-        break;
-    case PULSE_THERE:
-        insert(t, place, PULSE);
-        break;
-    case LEFT_OUT:
-        leave_out(t, place);
-        break;
-    default:
-        t->length = place;
-        if (way == RESET_ENDS)
-            trace_event(t, RESET);
-    }
-}
-
-/*
- * A typical session that ends, is reset, gets an event too many or lacks one
- * at every place.
- */
+/* A typical session, cut at every place. */
 static int cuts(struct run_case *c, enum kind kind, size_t batteries,
                 size_t number)
 {
-    const size_t way = digit(&number, WAYS_TO_CUT);
-    size_t place;
-
     bench_of_one_with(c, kind, batteries);
     typical_session(c, kind);
-    place = digit(&number, c->trace.length + 1);
-    cut(&c->trace, way, place);
-    if (c->trace.length > 0 && c->trace.events[0] != RESET)
-        c->expected = 11;
-    else if (way == PULSE_THERE && kind != DS1982)
-        c->expected = 6;
-    return number == 0;
+    return cut_anywhere(c, number);
 }
 
 static int cuts_ds1992(struct run_case *c, size_t number)
@@ -727,6 +688,11 @@ static int cuts_ds1993(struct run_case *c, size_t number)
     return cuts(c, DS1993, 0, number);
 }
 
+static int cuts_ds1996(struct run_case *c, size_t number)
+{
+    return cuts(c, DS1996, 0, number);
+}
+
 static int cuts_ds1982(struct run_case *c, size_t number)
 {
     return cuts(c, DS1982, 0, number);
@@ -734,9 +700,30 @@ static int cuts_ds1982(struct run_case *c, size_t number)
 
 static int cuts_flat(struct run_case *c, size_t number)
 {
-    const enum kind kind = (enum kind)digit(&number, 2);
+    const enum kind kind = (enum kind)digit(&number, SRAM_KINDS);
 
     return cuts(c, kind, BATTERIES_OF_ONE - 1, number);
+}
+
+/* A session at overdrive: a regular slot loses the device in every stage. */
+static int cuts_overdrive(struct run_case *c, size_t number)
+{
+    const size_t batteries = digit(&number, 2) * (BATTERIES_OF_ONE - 1);
+
+    bench_of_one_with(c, DS1996, batteries);
+    overdrive_session(&c->trace, only_code(&c->bench));
+    return cut_anywhere(c, number);
+}
+
+/* The same beside a device that has no overdrive, and one that has. */
+static int cuts_side_by_side(struct run_case *c, size_t number)
+{
+    const size_t kind = digit(&number, SRAM_KINDS);
+    const enum kind kinds[] = { DS1996, (enum kind)kind };
+
+    bench_of(c, kinds, 2);
+    overdrive_session(&c->trace, bench_see(&c->bench, 0, 0));
+    return cut_anywhere(c, number);
 }
 
 /* ------------------------------------------------------------------ */
@@ -756,27 +743,30 @@ static int empty_bench(struct run_case *c, size_t number)
 }
 
 /*
- * Every trace of up to six bytes 0 to 4, from the start or after a reset, on
- * no device and one of each kind.
+ * Every trace of up to four bytes 0 to 7, from the start, after a reset or at
+ * overdrive, on no device and one of each kind.
  */
 static int short_traces(struct run_case *c, size_t number)
 {
+    enum { MOST = 4, BYTES = NO_EVENT + 1 };
     const size_t kind = digit(&number, KINDS + 1);
-    const size_t resets = digit(&number, 2);
+    const size_t before = digit(&number, 3);
     size_t length = 0;
 
     bench_of_one_or_none(c, kind);
     c->expected = ANY_NUMBER;
-    trace_repeat(&c->trace, RESET, resets);
-    for (size_t traces = 1; number >= traces; traces *= 5) {
+    if (before == 1)
+        trace_event(&c->trace, RESET);
+    if (before == 2)
+        trace_overdrive_skip(&c->trace);
+    for (size_t traces = 1; number >= traces; traces *= BYTES) {
         number -= traces;
         length++;
     }
-    if (length > 6)
+    if (length > MOST)
         return 0;
     for (size_t i = 0; i < length; i++)
-        c->trace.events[resets + i] = (uint8_t)digit(&number, 5);
-    c->trace.length = resets + length;
+        c->trace.events[c->trace.length++] = (uint8_t)digit(&number, BYTES);
     return 1;
 }
 
@@ -795,13 +785,13 @@ static int lengths(struct run_case *c, size_t number)
 /* Every number of devices that a count can say; all good, or some flat. */
 static int counts(struct run_case *c, size_t number)
 {
-    enum kind kinds[MOST_ENTRIES];
+    enum kind kinds[MOST_ENTRIES] = { DS1992 };
     const size_t kind = digit(&number, KINDS);
     const size_t batteries = digit(&number, 2) * 0xB5A3;
     const size_t count = digit(&number, MOST_ENTRIES + 1);
 
-    for (size_t i = 0; i < count; i++) /* only DS1982 are small enough */
-        kinds[i] = count > MOST_DEVICES + 1 ? DS1982 : (enum kind)kind;
+    /* only DS1982 are small enough */
+    kinds_of_crowd(kinds, count, count > MOST_DEVICES + 1 ? DS1982 : kind);
     bench_of(c, kinds, count);
     bench_set_batteries(&c->bench, batteries);
     read_from(&c->trace, READ_MEMORY, 0x0000, 40);
@@ -838,7 +828,7 @@ enum { BENCHES_TO_DAMAGE = 4 };
  */
 static void bench_to_damage(struct run_case *c, size_t which)
 {
-    static const enum kind kinds[] = { DS1992, DS1993, DS1982, DS1982,
+    static const enum kind kinds[] = { DS1992, DS1996, DS1982, DS1982,
                                        DS1992, DS1982, DS1993, DS1993 };
 
     bench_of(c, kinds, which % 2 == 0 ? 4 : 8);
@@ -941,14 +931,13 @@ static int editions(struct run_case *c, size_t number)
 }
 
 /*
- * Every first event, with a byte over 3, a pulse that is
- * refused, and too little room, each there or not.
+ * Every first event, with a byte over 6, a pulse that is refused, and too
+ * little room, each there or not.
  */
 static int first_events(struct run_case *c, size_t number)
 {
-    static const enum event events[] = { WRITE_ZERO, WRITE_ONE, RESET, PULSE };
     const size_t kind = digit(&number, KINDS + 1);
-    const enum event first = events[digit(&number, 4)];
+    const enum event first = (enum event)digit(&number, NO_EVENT);
     const int byte = digit(&number, 2) == 1;
     const int pulse = digit(&number, 2) == 1;
     const int room = digit(&number, 2) == 1;
@@ -960,7 +949,7 @@ static int first_events(struct run_case *c, size_t number)
     if (pulse)
         c->trace.events[5] = PULSE;
     if (byte)
-        c->trace.events[7] = 4;
+        c->trace.events[7] = NO_EVENT;
     c->answers = room ? c->trace.length - 1 : c->trace.length;
     c->expected = byte              ? 5
                   : first != RESET ? 11
@@ -989,8 +978,16 @@ static const struct {
     { "read_targets", read_targets },
     { "cuts_ds1992", cuts_ds1992 },
     { "cuts_ds1993", cuts_ds1993 },
+    { "cuts_ds1996", cuts_ds1996 },
     { "cuts_ds1982", cuts_ds1982 },
     { "cuts_flat", cuts_flat },
+    { "cuts_overdrive", cuts_overdrive },
+    { "cuts_side_by_side", cuts_side_by_side },
+    { "overdrive_commands", overdrive_commands },
+    { "overdrive_matches", overdrive_matches },
+    { "overdrive_pairs", overdrive_pairs },
+    { "overdrive_bits", overdrive_bits },
+    { "large_images", large_images },
     { "empty_bench", empty_bench },
     { "lengths", lengths },
     { "counts", counts },

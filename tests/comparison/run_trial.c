@@ -106,6 +106,10 @@ static const uint8_t *levels_of(const struct run_trial *r, int program)
 static void show_case(FILE *out, const struct run_trial *r)
 {
     const struct run_case *const now = &r->now;
+    const struct column columns[COLUMNS] = {
+        { "library", levels_of(r, LIBRARY) },
+        { "second", levels_of(r, SECOND) }
+    };
 
     bench_show(out, &now->bench);
     fprintf(out, "trace of %zu events, room for %zu answers%s\n",
@@ -114,8 +118,7 @@ static void show_case(FILE *out, const struct run_trial *r)
     if (now->expected != ANY_NUMBER)
         fprintf(out, "the case is one for %u\n", now->expected);
     if (now->trace.length > 0)
-        trace_show(out, &now->trace, levels_of(r, LIBRARY),
-                   levels_of(r, SECOND));
+        trace_show(out, &now->trace, columns);
 }
 
 static int prefix_differs(void *state, size_t length)

@@ -7,6 +7,7 @@
 #include "bench_damage.h"
 #include "dice.h"
 #include "digit.h"
+#include "large_bench.h"
 #include "room.h"
 #include "some_bench.h"
 
@@ -18,12 +19,10 @@ enum { SERIAL_BITS = 48 };
 /* The kinds of a bench by one digit: all of one kind, or of every kind. */
 static void bench_of_kinds(struct bench *b, size_t way, size_t count)
 {
-    enum kind kinds[MOST_ENTRIES];
+    enum kind kinds[MOST_ENTRIES] = { DS1992 };
 
-    for (size_t i = 0; i < count; i++) /* more than 64: small ones only */
-        kinds[i] = count > MOST_DEVICES ? DS1982
-                   : way < KINDS        ? (enum kind)way
-                                        : (enum kind)(i % KINDS);
+    /* more than 64: small ones only */
+    kinds_of_crowd(kinds, count, count > MOST_DEVICES ? DS1982 : way);
     bench_make(b, kinds, count, count);
 }
 
@@ -106,6 +105,16 @@ static int full_subtrees(struct search_case *c, size_t number)
     set_batteries(&c->bench, batteries);
     for (size_t i = 0; i < 1 << BITS; i++)
         bench_give_code(&c->bench, i, base | (uint64_t)(i * 13 % 32) << shift);
+    return number == 0;
+}
+
+/* Images about as long as they can be, with all the DS1996 that fit. */
+static int large_images(struct search_case *c, size_t number)
+{
+    const int reversed = digit(&number, 2) == 1;
+    const size_t which = digit(&number, LARGE_BENCHES);
+
+    c->expected = large_bench(&c->bench, which, reversed) ? 0 : 2;
     return number == 0;
 }
 
@@ -240,6 +249,7 @@ static const struct {
     { "search_counts", counts },
     { "search_serials_in_a_row", serials_in_a_row },
     { "search_full_subtrees", full_subtrees },
+    { "search_large_images", large_images },
     { "search_room", room },
     { "search_every_room", every_room },
     { "search_lengths", lengths },

@@ -1,5 +1,7 @@
 #include "some_bench.h"
 
+#include "large_bench.h"
+
 #include <string.h>
 
 /* Few devices mostly, at times as many as there can be. */
@@ -24,20 +26,26 @@ size_t some_count(struct dice *dice)
     }
 }
 
-/* Any kinds, no DS1982, or one kind only: pulses need DS1982 only. */
+/*
+ * Any kinds, no DS1982, or one kind only: pulses need DS1982 only.  Mostly the
+ * DS1996 are no more than an image can hold, at times there is one too many.
+ */
 static void some_kinds(struct dice *dice, enum kind *kinds, size_t count)
 {
-    static const enum kind only[] = { DS1982, DS1982, DS1982, DS1992, DS1993 };
+    static const enum kind only[] = { DS1982, DS1982, DS1982,
+                                      DS1992, DS1993, DS1996 };
     const size_t ways = sizeof only / sizeof *only;
-    const size_t way = dice_below(dice, ways + 3);
+    const size_t way = dice_below(dice, ways + 4);
 
     for (size_t i = 0; i < count; i++)
         if (way < ways)
             kinds[i] = only[way];
-        else if (way == ways)
-            kinds[i] = dice_once_in(dice, 2) ? DS1992 : DS1993;
+        else if (way < ways + 2)
+            kinds[i] = (enum kind)dice_below(dice, SRAM_KINDS);
         else
             kinds[i] = (enum kind)dice_below(dice, KINDS);
+    kinds_within(kinds, count,
+                 dice_once_in(dice, 50) ? BENCH_ROOM - 1024 : MOST_IMAGE_BYTES);
 }
 
 /* Edition 1, edition 2 with all good, some flat, or all. */
@@ -121,10 +129,25 @@ static void some_body(struct dice *dice, struct bench *b, size_t i)
     }
 }
 
+/* One of the longest images, or one that is just too long. */
+static void some_large_bench(struct dice *dice, struct bench *b)
+{
+    const size_t about_the_longest = 4 * 33 + dice_below(dice, 4 * 6);
+
+    large_bench(b, dice_once_in(dice, 3) ? dice_below(dice, LARGE_BENCHES)
+                                         : about_the_longest,
+                dice_once_in(dice, 2));
+    some_batteries(dice, b);
+}
+
 void some_bench(struct dice *dice, struct bench *b, size_t count)
 {
     enum kind kinds[MOST_DEVICES];
 
+    if (count > 0 && dice_once_in(dice, 40)) {
+        some_large_bench(dice, b);
+        return;
+    }
     some_kinds(dice, kinds, count);
     bench_lay_out(b, kinds, count);
     some_batteries(dice, b);

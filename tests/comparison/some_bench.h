@@ -12,7 +12,8 @@ size_t some_count(struct dice *dice);
 
 /*
  * An accepted image of so many devices, of any kinds and with any contents, of
- * either edition.
+ * either edition; at times one of other devices that is about as long as an
+ * image can be, or a little longer.
  */
 void some_bench(struct dice *dice, struct bench *b, size_t count);
 

@@ -6,7 +6,16 @@
 #include <stdint.h>
 #include <stdio.h>
 
-enum event { WRITE_ZERO, WRITE_ONE, RESET, PULSE };
+enum event {
+    WRITE_ZERO,
+    WRITE_ONE,
+    RESET,
+    PULSE,
+    OVERDRIVE_ZERO,
+    OVERDRIVE_ONE,
+    OVERDRIVE_RESET,
+    NO_EVENT /* the first byte that is none */
+};
 
 enum {
     MOST_EVENTS = 32768,
@@ -18,10 +27,12 @@ enum {
     READ_ROM = 0x33,
     MATCH_ROM = 0x55,
     SKIP_ROM = 0xCC,
-    SEARCH_ROM = 0xF0
+    SEARCH_ROM = 0xF0,
+    OVERDRIVE_SKIP_ROM = 0x3C, /* of a DS1996, as the next */
+    OVERDRIVE_MATCH_ROM = 0x69
 };
 
-/* Memory commands of a DS1992 or DS1993. */
+/* Memory commands of a DS1992, DS1993 or DS1996. */
 enum {
     WRITE_SCRATCHPAD = 0x0F,
     COPY_SCRATCHPAD = 0x55,
@@ -63,14 +74,46 @@ void trace_search(struct trace *t, const uint8_t *code);
 /* What Search ROM sends after its command to come to a code. */
 void trace_search_path(struct trace *t, const uint8_t *code);
 
+/* A reset and Overdrive Skip ROM; or Match, whose code is at overdrive. */
+void trace_overdrive_skip(struct trace *t);
+void trace_overdrive_match(struct trace *t, const uint8_t *code);
+
+/* Turns slots and resets from a place on into those at overdrive. */
+void trace_hurry(struct trace *t, size_t from);
+
+/* A trace ends at a place, or gets an event there, or lacks the one there. */
+enum cut {
+    ENDS_THERE,
+    RESET_ENDS,
+    RESET_THERE,
+    ZERO_THERE,
+    ONE_THERE,
+    PULSE_THERE,
+    OVERDRIVE_ZERO_THERE,
+    OVERDRIVE_ONE_THERE,
+    OVERDRIVE_RESET_THERE,
+    LEFT_OUT,
+    WAYS_TO_CUT
+};
+
+void trace_cut(struct trace *t, enum cut way, size_t place);
+
 /* The name of an event byte. */
 const char *event_name(uint8_t event);
 
+/* Answers to a trace, shown beside it; there may be none. */
+struct column {
+    const char *name;
+    const uint8_t *answers; /* or NULL */
+};
+
+enum { COLUMNS = 2 };
+
 /*
- * Shows a trace, a byte's worth of slots in a line, beside the answers of both
- * programs; answers may be NULL.  The middle of a long trace is left out.
+ * Shows a trace, a byte's worth of slots in a line, beside two columns of
+ * answers.  The middle of a long trace is left out.
  */
-void trace_show(FILE *out, const struct trace *t, const uint8_t *library,
-                const uint8_t *second);
+void trace_show(FILE *out, const struct trace *t,
+                const struct column columns[COLUMNS]);
 
 #endif

@@ -1,5 +1,6 @@
 /*
- * A 1-Wire bus of DS1992, DS1993 and DS1982 devices, and a searching master.
+ * A 1-Wire bus of DS1992, DS1993, DS1996 and DS1982 devices, and a searching
+ * master.
  *
  * Everything on the bus is a transfer: a number of slots in which a party
  * shifts bits out of one register and line levels into another.  A 1 shifted
@@ -22,19 +23,30 @@ enum {
     PAGE_BYTES = 32
 };
 
-enum event { WRITE_ZERO, WRITE_ONE, RESET, PROGRAM_PULSE, SEARCH_ENDED };
+enum event {
+    WRITE_ZERO,
+    WRITE_ONE,
+    RESET,
+    PROGRAM_PULSE,
+    OVERDRIVE_ZERO,
+    OVERDRIVE_ONE,
+    OVERDRIVE_RESET,
+    SEARCH_ENDED
+};
 
-enum family { DS1993 = 0x06, DS1992 = 0x08, DS1982 = 0x09 };
+enum family { DS1993 = 0x06, DS1992 = 0x08, DS1982 = 0x09, DS1996 = 0x0C };
 
-/* The ROM functions of all devices. */
+/* The ROM functions of all devices, and those of a DS1996. */
 enum {
     READ_ROM = 0x33,
     MATCH_ROM = 0x55,
     SKIP_ROM = 0xCC,
-    SEARCH_ROM = 0xF0
+    SEARCH_ROM = 0xF0,
+    OVERDRIVE_SKIP_ROM = 0x3C,
+    OVERDRIVE_MATCH_ROM = 0x69
 };
 
-/* The memory functions of a DS1992 or DS1993. */
+/* The memory functions of a DS1992, DS1993 or DS1996. */
 enum {
     WRITE_SCRATCHPAD = 0x0F,
     COPY_SCRATCHPAD = 0x55,
@@ -57,7 +69,7 @@ enum {
     EDITION = 1,
     TABLE = 2,
     ENTRY_BYTES = 4,
-    /* in the body of a DS1992 or DS1993 */
+    /* in the body of a DS1992, DS1993 or DS1996 */
     TA1 = CODE_BYTES,
     TA2 = TA1 + 1,
     ES = TA2 + 1,
@@ -69,8 +81,7 @@ enum {
     STATUS_BYTES = 8,
     DATA = STATUS + STATUS_BYTES,
     DATA_BYTES = 128,
-    /* as long as 64 DS1993 make it */
-    MAX_IMAGE_BYTES = TABLE + MAX_DEVICES * (ENTRY_BYTES + MEMORY + 512)
+    MAX_IMAGE_BYTES = 65535
 };
 
 /* The second byte of an entry. */
@@ -141,8 +152,13 @@ struct device {
     unsigned left;      /* slots to go */
     continuation *next; /* what follows them */
 
+    /* the speed: a device hears slots and short resets of its own only */
+    int overdrive;
+    int overdrive_before; /* the command 69h whose match is under way */
+
     /* what the device is */
     uint64_t code;
+    int has_overdrive;
     int flat; /* whether its battery is */
     continuation *memory_command;
     uint8_t *body;
@@ -219,8 +235,9 @@ static void rom_done(struct device *d)
 }
 
 /*
- * The device says nothing while it compares, and nothing after a mismatch, so
- * comparing when all 64 levels are in is the same as comparing one by one.
+ * The device says nothing while it compares, and nothing after a mismatch, and
+ * its speed stays, so comparing when all 64 levels are in is the same as
+ * comparing one by one.
  */
 static void match_code(struct device *d)
 {
@@ -250,6 +267,38 @@ static void search_direction(struct device *d)
         search_bit(d);
 }
 
+/*
+ * Here a mismatch can take the speed away, and at once: the device must not
+ * hear a short reset any more.
+ */
+static void overdrive_match_bit(struct device *d)
+{
+    if (received(d, 1) != ((d->code >> d->position) & 1)) {
+        d->overdrive = d->overdrive_before;
+        wait_for_reset(d);
+    } else if (++d->position == CODE_BITS) {
+        rom_done(d);
+    } else {
+        device_listen(d, 1, overdrive_match_bit);
+    }
+}
+
+/* What a DS1996 knows beside the ROM functions of all. */
+static void overdrive_command(struct device *d, uint64_t command)
+{
+    if (command == OVERDRIVE_SKIP_ROM) {
+        d->overdrive = 1;
+        rom_done(d);
+    } else if (command == OVERDRIVE_MATCH_ROM) {
+        d->overdrive_before = d->overdrive;
+        d->overdrive = 1;
+        d->position = 0;
+        device_listen(d, 1, overdrive_match_bit);
+    } else {
+        wait_for_reset(d);
+    }
+}
+
 static void rom_command(struct device *d)
 {
     switch (received(d, 8)) {
@@ -267,12 +316,15 @@ static void rom_command(struct device *d)
         rom_done(d);
         break;
     default:
-        wait_for_reset(d);
+        if (d->has_overdrive)
+            overdrive_command(d, received(d, 8));
+        else
+            wait_for_reset(d);
     }
 }
 
 /* ------------------------------------------------------------------ */
-/* DS1992 and DS1993: memory functions                                 */
+/* DS1992, DS1993 and DS1996: memory functions                         */
 
 /* TA1, TA2 and E/S in the order they are sent. */
 static uint32_t registers(const uint8_t *body)
@@ -311,8 +363,9 @@ static void scratchpad_byte(struct device *d)
 
 /*
  * Stores the bits of a data byte cut short.  Until the byte ends, the device is
- * reset or the run stops, nobody can look at the scratchpad, so a data bit is
- * stored no earlier than that.  Returns whether there were any.
+ * reset or falls back to regular speed, or the run stops, nobody can look at
+ * the scratchpad, so a data bit is stored no earlier than that.  Returns
+ * whether there were any.
  */
 static int store_partial_byte(struct device *d)
 {
@@ -531,7 +584,7 @@ struct second_view second_remaining(uint8_t command, uint16_t address,
 struct kind {
     enum family family;
     unsigned body_bytes;
-    unsigned memory_bytes; /* DS1992 and DS1993 only */
+    unsigned memory_bytes; /* not of a DS1982 */
     continuation *memory_command;
 };
 
@@ -542,6 +595,8 @@ static const struct kind *kind_of(uint8_t family)
                                         sram_command };
     static const struct kind ds1993 = { DS1993, MEMORY + 512, 512,
                                         sram_command };
+    static const struct kind ds1996 = { DS1996, MEMORY + 8192, 8192,
+                                        sram_command };
     static const struct kind ds1982 = { DS1982, DATA + DATA_BYTES, 0,
                                         eprom_command };
 
@@ -550,6 +605,8 @@ static const struct kind *kind_of(uint8_t family)
         return &ds1992;
     case DS1993:
         return &ds1993;
+    case DS1996:
+        return &ds1996;
     case DS1982:
         return &ds1982;
     default:
@@ -598,7 +655,7 @@ static int layout_is_packed(const uint8_t *image, size_t image_len)
             return 0;
         offset += kind_of(entry(image, i)[0])->body_bytes;
     }
-    return image_len == offset;
+    return image_len == offset && image_len <= MAX_IMAGE_BYTES;
 }
 
 static int codes_are_valid(const uint8_t *image)
@@ -656,7 +713,7 @@ static uint32_t refuse_trace(const uint8_t *image, const uint8_t *trace,
     if (trace_len > MAX_EVENTS)
         return 5;
     for (size_t i = 0; i < trace_len; i++) {
-        unknown |= trace[i] > PROGRAM_PULSE;
+        unknown |= trace[i] > OVERDRIVE_RESET;
         pulse |= trace[i] == PROGRAM_PULSE;
     }
     if (unknown)
@@ -702,6 +759,7 @@ static void bus_attach(struct bus *bus, const uint8_t *image)
 
         *d = (struct device){
             .code = load_code(image + body_offset(image, i)),
+            .has_overdrive = entry(image, i)[0] == DS1996,
             .flat = entry(image, i)[1] == FLAT,
             .memory_command = wait_for_reset
         };
@@ -721,34 +779,67 @@ static void bus_attach_memory(struct bus *bus, uint8_t *image)
     }
 }
 
+/*
+ * What a device puts on the line in slots of a speed: it takes part in those
+ * of its own.  The lowest bit counts.
+ */
+static uint64_t device_output(const struct device *d, int overdrive)
+{
+    return d->overdrive == overdrive ? d->out : UINT64_MAX;
+}
+
+/* A slot too long for a device at overdrive: it waits for a long reset. */
+static void fall_back(struct device *d)
+{
+    store_partial_byte(d);
+    d->overdrive = 0;
+    wait_for_reset(d);
+}
+
+/* One slot of a device's own speed is over. */
+static void device_shift(struct device *d, uint64_t line)
+{
+    d->in = d->in >> 1 | line << 63;
+    d->out >>= 1;
+    if (--d->left == 0)
+        d->next(d);
+}
+
 /* The line is low if the master or any device pulls it low. */
-static uint8_t bus_slot(struct bus *bus, unsigned bit)
+static uint8_t bus_slot(struct bus *bus, unsigned bit, int overdrive)
 {
     uint64_t line = bit;
 
     for (size_t i = 0; i < bus->count; i++)
-        line &= bus->devices[i].out;
+        line &= device_output(&bus->devices[i], overdrive);
     for (size_t i = 0; i < bus->count; i++) {
         struct device *const d = &bus->devices[i];
 
-        d->in = d->in >> 1 | line << 63;
-        d->out >>= 1;
-        if (--d->left == 0)
-            d->next(d);
+        if (d->overdrive == overdrive)
+            device_shift(d, line);
+        else if (!overdrive)
+            fall_back(d);
     }
     return (uint8_t)line;
 }
 
-static uint8_t bus_reset(struct bus *bus)
+/* A long reset is heard by all, a short one by those at overdrive. */
+static uint8_t bus_reset(struct bus *bus, int overdrive)
 {
+    uint8_t level = 1;
+
     for (size_t i = 0; i < bus->count; i++) {
         struct device *const d = &bus->devices[i];
 
+        if (overdrive && !d->overdrive)
+            continue;
+        level = 0;
         if (store_partial_byte(d))
             d->body[ES] |= PF;
+        d->overdrive = overdrive;
         device_listen(d, 8, rom_command);
     }
-    return bus->count == 0;
+    return level;
 }
 
 static uint8_t bus_program_pulse(struct bus *bus)
@@ -759,16 +850,31 @@ static uint8_t bus_program_pulse(struct bus *bus)
     return 1;
 }
 
+static int is_overdrive_slot(uint8_t event)
+{
+    return event == OVERDRIVE_ZERO || event == OVERDRIVE_ONE;
+}
+
+static int is_slot(uint8_t event)
+{
+    return event <= WRITE_ONE || is_overdrive_slot(event);
+}
+
 /* Carries out an event and gives its level. */
 static uint8_t bus_event(struct bus *bus, enum event event)
 {
     switch (event) {
     case RESET:
-        return bus_reset(bus);
+        return bus_reset(bus, 0);
     case PROGRAM_PULSE:
         return bus_program_pulse(bus);
+    case OVERDRIVE_RESET:
+        return bus_reset(bus, 1);
+    case OVERDRIVE_ZERO:
+    case OVERDRIVE_ONE:
+        return bus_slot(bus, event == OVERDRIVE_ONE, 1);
     default:
-        return bus_slot(bus, event == WRITE_ONE);
+        return bus_slot(bus, event == WRITE_ONE, 0);
     }
 }
 
@@ -806,13 +912,14 @@ uint32_t second_run(uint8_t *image, size_t image_len,
 /* Looks on for as long as the line is high and there is a device left. */
 static uint8_t bus_look(const struct bus *bus, enum event event)
 {
-    uint64_t line = event == WRITE_ONE;
+    const int overdrive = is_overdrive_slot((uint8_t)event);
+    uint64_t line = event == WRITE_ONE || event == OVERDRIVE_ONE;
     size_t looked = 0;
 
-    if (event > WRITE_ONE)
+    if (!is_slot((uint8_t)event))
         return SECOND_NO_SLOT;
     while (line & 1 && looked < bus->count)
-        line &= bus->devices[looked++].out;
+        line &= device_output(&bus->devices[looked++], overdrive);
     return (uint8_t)looked;
 }
 

@@ -1,6 +1,6 @@
 /*
- * A 1-Wire bus with up to 64 devices (DS1992, DS1993, DS1982), simulated slot
- * by slot, and a master that searches it.
+ * A 1-Wire bus with up to 64 devices (DS1992, DS1993, DS1996, DS1982),
+ * simulated slot by slot, and a master that searches it.
  *
  * Nothing here allocates or keeps state between calls.  Buffers that belong to
  * one call must not overlap.  A pointer whose length is 0 is not used.
@@ -15,11 +15,14 @@
  * Runs a trace on the devices of an image.
  *
  * The second byte of an entry is 0 in edition 1.  In edition 2 it is 1 for a
- * DS1992 or DS1993 whose battery is flat, else 0.  A flat device carries out
- * ROM functions, and then waits for a reset where others take a memory command.
+ * DS1992, DS1993 or DS1996 whose battery is flat, else 0.  A flat device
+ * carries out ROM functions, and then waits for a reset where others take a
+ * memory command.
  *
  * A trace has one byte per event: 0 write-zero slot, 1 write-one or read slot,
- * 2 reset, 3 program pulse.  The level of event i goes to answers[i]; answers
+ * 2 reset, 3 program pulse, and 4, 5, 6 for those slots and the reset at
+ * overdrive speed, which only a DS1996 can be at.  All devices are at regular
+ * speed at the start.  The level of event i goes to answers[i]; answers
  * past trace_len stay as they were.  The image takes up what the devices store.
  * copied becomes the number of bytes that the copies accepted in this trace
  * wrote to memory, of all devices together; a program pulse copies nothing.
@@ -28,11 +31,12 @@
  * with nothing changed:
  *   1  image too short for its table, over 64 devices, edition not 1 or 2, a
  *      second entry byte that the edition does not know, or an unknown family
- *   2  an offset or the image length is not the packed layout's
+ *   2  an offset or the image length is not the packed layout's, or the image
+ *      has over 65535 bytes
  *   3  a code with a wrong CRC, or not of its entry's family
  *   4  two equal codes
- *   5  over 32768 events, or an event byte over 3
- *  11  a trace with events whose first is not a reset
+ *   5  over 32768 events, or an event byte over 6
+ *  11  a trace with events whose first is not a reset at regular speed
  *   6  a program pulse with a device on the bus that is not a DS1982
  *   7  fewer answers than events
  */
@@ -43,9 +47,9 @@ uint32_t second_run(uint8_t *image, size_t image_len,
 /*
  * How many devices have to be looked at for the level of each slot of a trace:
  * in the order of the entries up to the first that pulls low, or all where
- * none does; no device where the master sends 0.  That of event i goes to
- * looked[i], or SECOND_NO_SLOT where it is none; what is past trace_len stays
- * as it was.  The image is only read.
+ * none does, those that do not hear the slot as well; no device where the
+ * master sends 0.  That of event i goes to looked[i], or SECOND_NO_SLOT where
+ * it is none; what is past trace_len stays as it was.  The image is only read.
  *
  * Returns 0, or the refusal of second_run with room for looked_len answers.
  */

@@ -11,7 +11,7 @@
 #include <stdlib.h>
 #include <string.h>
 
-enum { ROOM = 40000, EVENTS = 32768, CODE = 8 };
+enum { ROOM = 66000, EVENTS = 32768, CODE = 8 };
 
 /* ------------------------------------------------------------------ */
 /* Reporting                                                           */
@@ -60,7 +60,16 @@ static void make_code(uint8_t *code, uint8_t family, uint64_t serial)
 
 static size_t body_size(uint8_t family)
 {
-    return family == 0x08 ? 171 : family == 0x06 ? 555 : 144;
+    switch (family) {
+    case 0x08:
+        return 171;
+    case 0x06:
+        return 555;
+    case 0x0C:
+        return 8235;
+    default:
+        return 144;
+    }
 }
 
 struct image {
@@ -295,7 +304,9 @@ static void worked_example(struct report *r, struct bench *b, uint8_t family)
 {
     static const uint8_t registers[] = { 0x26, 0x00, 0x07 };
     static const uint8_t data[] = { 0xC3, 0x5A };
+    /* a trace is too short for all of a DS1996 */
     const size_t size = family == 0x08 ? 128 : 512;
+    const size_t after = family == 0x0C ? 0 : 20;
     struct script *const s = &b->script;
     uint8_t memory[512];
     size_t back, all;
@@ -318,13 +329,13 @@ static void worked_example(struct report *r, struct bench *b, uint8_t family)
     address_all(s);
     SEND(s, 0xF0, 0x00, 0x00);
     all = read_bytes(s, size);
-    slots(s, 20);
+    slots(s, after);
     event(s, 2);
     CHECK(r, play(s, &b->image) == 0);
     CHECK(r, answered_bytes(s, back, registers, 3));
     CHECK(r, answered_bytes(s, back + 24, data, 2));
     CHECK(r, answered_bytes(s, all, memory, size));
-    CHECK(r, all_ones(s, all + 8 * size, 20));
+    CHECK(r, all_ones(s, all + 8 * size, after));
     CHECK(r, s->answers[s->length - 1] == 0);
     CHECK(r, memcmp(at(&b->image, 0, MEM), memory, size) == 0);
     CHECK(r, memcmp(at(&b->image, 0, TA1), "\x00\x00\x87", 3) == 0);
@@ -550,7 +561,7 @@ static void read_memory_at(struct report *r, struct bench *b, uint8_t family,
                            uint16_t address)
 {
     enum { READ = 5 };
-    const size_t size = family == 0x08 ? 128 : 512;
+    const size_t size = body_size(family) - MEM;
     struct script *const s = &b->script;
     uint8_t bytes[READ];
     size_t place;
@@ -584,6 +595,11 @@ static void read_memory(struct report *r, struct bench *b)
     }
     read_memory_at(r, b, 0x08, 0x8000);
     read_memory_at(r, b, 0x06, 0xFFFF);
+    for (unsigned address = 0x01F0; address < 0x2010; address += 7)
+        read_memory_at(r, b, 0x0C, (uint16_t)address);
+    for (unsigned address = 0x1FF0; address < 0x2010; address++)
+        read_memory_at(r, b, 0x0C, (uint16_t)address);
+    read_memory_at(r, b, 0x0C, 0xFFFF);
 }
 
 /* Copies with a pattern; gives the place of 16 read slots after it. */
@@ -691,6 +707,11 @@ static void copies(struct report *r, struct bench *b)
     copy_from(r, b, 0x08, 0x0080, 0x1F, 0);
     copy_from(r, b, 0x06, 0x0200, 0x1F, 0);
     copy_from(r, b, 0x06, 0xFFE0, 0x1F, 0);
+    copy_from(r, b, 0x0C, 0x0200, 0x1F, 32);
+    copy_from(r, b, 0x0C, 0x1FFF, 0x1F, 1);
+    copy_from(r, b, 0x0C, 0x1FE5, 0x66, 2);
+    copy_from(r, b, 0x0C, 0x2000, 0x1F, 0);
+    copy_from(r, b, 0x0C, 0x1FE5, 0x04, 0);
 }
 
 /* A pattern is compared whole, flags as well: any wrong bit spoils it. */
@@ -856,6 +877,363 @@ static void listening(struct report *r, struct bench *b)
     CHECK(r, answered(s, place) == crc);
     CHECK(r, *at(&b->image, 0, PAD) == 0xFF);
     CHECK(r, *at(&b->image, 0, PAD + 1) == crc);
+}
+
+/* ------------------------------------------------------------------ */
+/* Overdrive                                                           */
+
+/* Turns the events of a script from a place on into those at overdrive. */
+static void hurry(struct script *s, size_t from)
+{
+    for (size_t i = from; i < s->length; i++)
+        s->trace[i] = (uint8_t)(s->trace[i] + 4);
+}
+
+/* A reset and 3Ch; gives the place from which on all is at overdrive. */
+static size_t overdrive_all(struct script *s)
+{
+    event(s, 2);
+    SEND(s, 0x3C);
+    return s->length;
+}
+
+/* Two bytes written, read back, copied and read, after 3Ch. */
+static void overdrive_session(struct script *s)
+{
+    const size_t from = overdrive_all(s);
+
+    SEND(s, 0x0F, 0x26, 0x00, 0xC3, 0x5A);
+    address_all(s);
+    SEND(s, 0xAA);
+    read_bytes(s, 5);
+    address_all(s);
+    SEND(s, 0x55, 0x26, 0x00, 0x07);
+    slots(s, 10);
+    event(s, 2);
+    SEND(s, 0xF0);
+    slots(s, 30);
+    address_all(s);
+    SEND(s, 0xF0, 0x24, 0x00);
+    read_bytes(s, 5);
+    hurry(s, from);
+}
+
+static void overdrive_example(struct report *r, struct bench *b)
+{
+    struct script *const s = &b->script;
+    const size_t back = 9 + 40 + 17, again = 9 + 40 + 17 + 40 + 9 + 32 + 10;
+
+    title("overdrive: 3Ch, then two bytes written, read back and copied");
+    one_device(&b->image, 0x0C);
+    keep(b);
+    restart(s);
+    overdrive_session(s);
+    event(s, 2);
+    CHECK(r, play(s, &b->image) == 0 && s->copied == 2);
+    CHECK(r, s->answers[0] == 0 && s->answers[9 + 40] == 0);
+    CHECK(r, answered_bytes(s, back, (const uint8_t *)"\x26\x00\x07\xC3\x5A",
+                            5));
+    CHECK(r, all_zeros(s, again - 10, 11));
+    CHECK(r, answered_bytes(s, s->length - 1 - 24,
+                            (const uint8_t *)"\xC3\x5A", 2));
+    memcpy(at(&b->before, 0, TA1), "\x24\x00\x87", 3);
+    memcpy(at(&b->before, 0, PAD + 6), "\xC3\x5A", 2);
+    memcpy(at(&b->before, 0, MEM + 0x26), "\xC3\x5A", 2);
+    CHECK(r, unchanged(b));
+}
+
+/* A write, and a read of the scratchpad: 116 events at regular speed. */
+enum { REGULAR_EVENTS = 9 + 40 + 17 + 50 };
+
+static void regular_session(struct script *s)
+{
+    restart(s);
+    address_all(s);
+    SEND(s, 0x0F, 0x26, 0x00, 0xC3, 0x5A);
+    address_all(s);
+    SEND(s, 0xAA);
+    slots(s, 50);
+}
+
+/* A device that is not at overdrive hears nothing of it, in any stage. */
+static void not_heard(struct report *r, struct bench *b, uint8_t family)
+{
+    struct script *const s = &b->script;
+    uint8_t plain[REGULAR_EVENTS];
+
+    printf("overdrive: events 4, 5, 6 are not heard, family %02Xh\n", family);
+    for (size_t place = 1; place <= REGULAR_EVENTS; place++)
+        for (uint8_t e = 4; e <= 6; e++) {
+            const size_t rest = REGULAR_EVENTS - place;
+
+            regular_session(s);
+            one_device(&b->before, family);
+            CHECK(r, play(s, &b->before) == 0);
+            memcpy(plain, s->answers, REGULAR_EVENTS);
+            memmove(s->trace + place + 1, s->trace + place, rest);
+            s->trace[place] = e;
+            s->length++;
+            one_device(&b->image, family);
+            CHECK(r, play(s, &b->image) == 0);
+            CHECK(r, s->answers[place] == (e != 4));
+            CHECK(r, memcmp(s->answers, plain, place) == 0);
+            CHECK(r, memcmp(s->answers + place + 1, plain + place, rest) == 0);
+            CHECK(r, unchanged(b));
+        }
+}
+
+/* 3Ch and 69h are unknown commands for all but a DS1996. */
+static void overdrive_unknown(struct report *r, struct bench *b)
+{
+    static const uint8_t families[] = { 0x08, 0x06, 0x09 };
+    struct script *const s = &b->script;
+    size_t place;
+
+    title("overdrive: unknown commands for the others");
+    for (unsigned i = 0; i < 6; i++) {
+        one_device(&b->image, families[i % 3]);
+        keep(b);
+        restart(s);
+        event(s, 2);
+        SEND(s, i < 3 ? 0x3C : 0x69);
+        place = s->length;
+        if (i >= 3)
+            send(s, at(&b->image, 0, 0), CODE);
+        hurry(s, place);
+        event(s, 6);
+        SEND(s, 0xF0, 0x00, 0x00);
+        slots(s, 40);
+        CHECK(r, play(s, &b->image) == 0);
+        CHECK(r, all_ones(s, s->length - 40, 40) && unchanged(b));
+        CHECK(r, s->answers[s->length - 40 - 24 - 1] == 1);
+    }
+}
+
+/* At which speed a device is: whether it hears a short reset. */
+static int hears_short_reset(struct report *r, struct bench *b)
+{
+    event(&b->script, 6);
+    CHECK(r, play(&b->script, &b->image) == 0);
+    return b->script.answers[--b->script.length] == 0;
+}
+
+/* 69h at either speed, and so many bits of a code that is wrong at a bit. */
+static void send_match(struct script *s, const uint8_t *code, int before,
+                       unsigned wrong, unsigned count)
+{
+    size_t from = before ? overdrive_all(s) : s->length;
+
+    event(s, 2);
+    SEND(s, 0x69);
+    if (before)
+        hurry(s, from);
+    from = s->length;
+    for (unsigned i = 0; i < count; i++)
+        bits(s, (code[i / 8] >> i % 8 & 1) ^ (i == wrong), 1);
+    hurry(s, from);
+}
+
+/* Every wrong bit, or none, and every number of bits sent. */
+static void overdrive_match(struct report *r, struct bench *b, int before,
+                            int flat)
+{
+    struct script *const s = &b->script;
+    size_t from;
+
+    printf("overdrive: 69h, the match from %s speed%s\n",
+           before ? "overdrive" : "regular", flat ? ", flat" : "");
+    for (unsigned wrong = 0; wrong <= 64; wrong++)
+        for (unsigned count = 0; count <= 64; count++) {
+            one_device(&b->image, 0x0C);
+            if (flat)
+                flatten(&b->image, 0);
+            restart(s);
+            send_match(s, at(&b->image, 0, 0), before, wrong, count);
+            CHECK(r, hears_short_reset(r, b) == (count <= wrong || before));
+            if (count < 64)
+                continue;
+            from = s->length;
+            SEND(s, 0xF0, 0x10, 0x00);
+            read_bytes(s, 3);
+            hurry(s, from);
+            CHECK(r, play(s, &b->image) == 0);
+            if (wrong == 64 && !flat)
+                CHECK(r, answered_bytes(s, from + 24,
+                                        at(&b->image, 0, MEM + 0x10), 3));
+            else
+                CHECK(r, all_ones(s, from + 24, 24));
+            CHECK(r, hears_short_reset(r, b) == (wrong == 64 || before));
+        }
+}
+
+/*
+ * A regular slot at any place of a session at overdrive: the device is left as
+ * if the trace ended there, and hears a regular reset next.
+ */
+static void falling_back(struct report *r, struct bench *b)
+{
+    struct script *const s = &b->script;
+    size_t length;
+
+    title("overdrive: a regular slot at every place, then deaf, PF as it was");
+    restart(s);
+    overdrive_session(s);
+    length = s->length;
+    for (size_t place = 9; place <= length; place++)
+        for (uint8_t bit = 0; bit < 2; bit++) {
+            restart(s);
+            overdrive_session(s);
+            s->length = place;
+            one_device(&b->image, 0x0C);
+            CHECK(r, play(s, &b->image) == 0);
+            keep(b);
+            event(s, bit);
+            for (unsigned i = 0; i < 30; i++)
+                event(s, 4 + i % 3);
+            event(s, 2);
+            one_device(&b->image, 0x0C);
+            CHECK(r, play(s, &b->image) == 0);
+            CHECK(r, s->answers[place] == bit);
+            for (unsigned i = 0; i < 30; i++)
+                CHECK(r, s->answers[place + 1 + i] == (i % 3 != 0));
+            CHECK(r, s->answers[s->length - 1] == 0);
+            CHECK(r, unchanged(b));
+        }
+}
+
+/* 0 to 16 data bits at overdrive, and what ends them. */
+static void partial_bytes(struct report *r, struct bench *b)
+{
+    struct script *const s = &b->script;
+
+    title("overdrive: PF by a short and by a regular reset, not by a slot");
+    for (unsigned count = 0; count <= 16; count++)
+        for (unsigned way = 0; way < 6; way++) {
+            const size_t from = (restart(s), overdrive_all(s));
+
+            SEND(s, 0x0F, 0x26, 0x00);
+            bits(s, 0x5AC3, count);
+            hurry(s, from);
+            one_device(&b->image, 0x0C);
+            if (way == 1 || way > 3)
+                event(s, way == 1 ? 1 : 0);
+            if (way == 2 || way == 4)
+                event(s, 6);
+            if (way == 3 || way == 5)
+                event(s, 2);
+            CHECK(r, play(s, &b->image) == 0);
+            CHECK(r, *at(&b->image, 0, ES)
+                         == (count == 0 ? 6 : 6 + (count - 1) / 8)
+                                + (count % 8 && (way == 2 || way == 3) ? 0x20
+                                                                       : 0));
+        }
+}
+
+/* 3Ch at overdrive, and ROM functions that fail there: the speed stays. */
+static void staying_at_overdrive(struct report *r, struct bench *b)
+{
+    static const uint8_t commands[] = { 0x3C, 0x33, 0x55, 0xF0, 0xCC, 0xEC };
+    struct script *const s = &b->script;
+    size_t from;
+
+    title("overdrive: the speed stays over short resets and failed commands");
+    for (size_t i = 0; i < sizeof commands; i++) {
+        one_device(&b->image, 0x0C);
+        restart(s);
+        from = overdrive_all(s);
+        event(s, 2);
+        SEND(s, commands[i]);
+        bits(s, 0, 64);
+        hurry(s, from);
+        CHECK(r, hears_short_reset(r, b));
+        event(s, 2);
+        CHECK(r, !hears_short_reset(r, b));
+        SEND(s, 0x33);
+        read_bytes(s, 8);
+        CHECK(r, play(s, &b->image) == 0);
+        CHECK(r, answered_bytes(s, s->length - 64, at(&b->image, 0, 0), 8));
+    }
+}
+
+/*
+ * A DS1993 and two DS1996, one of them flat.  At overdrive the good one is
+ * written, and both give their codes; at regular speed the good ones are.
+ */
+static void side_by_side(struct report *r, struct bench *b)
+{
+    struct script *const s = &b->script;
+    size_t from, codes;
+
+    title("overdrive: devices of both speeds side by side, and a flat one");
+    make_image(&b->image, (const uint8_t[]){ 0x06, 0x0C, 0x0C }, 3);
+    flatten(&b->image, 2);
+    keep(b);
+    restart(s);
+    from = overdrive_all(s);
+    SEND(s, 0x0F, 0x41, 0x00, 0x77);
+    event(s, 2);
+    SEND(s, 0x33);
+    codes = read_bytes(s, 8);
+    hurry(s, from);
+    CHECK(r, play(s, &b->image) == 0);
+    for (size_t i = 0; i < CODE; i++)
+        CHECK(r, answered(s, codes + 8 * i)
+                     == (*at(&b->image, 1, i) & *at(&b->image, 2, i)));
+    memcpy(at(&b->before, 1, TA1), "\x41\x00\x01", 3);
+    *at(&b->before, 1, PAD + 1) = 0x77;
+    CHECK(r, unchanged(b));
+
+    restart(s);
+    address_all(s);
+    SEND(s, 0x0F, 0x42, 0x00, 0x88);
+    CHECK(r, play(s, &b->image) == 0);
+    for (size_t i = 0; i < 2; i++) {
+        memcpy(at(&b->before, i, TA1), "\x42\x00\x02", 3);
+        *at(&b->before, i, PAD + 2) = 0x88;
+    }
+    CHECK(r, unchanged(b));
+}
+
+static void looked_at_overdrive(struct report *r, struct bench *b)
+{
+    struct script *const s = &b->script;
+    size_t from;
+
+    title("overdrive: looked at, those that do not hear count");
+    make_image(&b->image, (const uint8_t[]){ 0x06, 0x0C, 0x08, 0x0C, 0x09 },
+               5);
+    memset(at(&b->image, 1, MEM), 0xFF, 32);
+    memset(at(&b->image, 3, MEM), 0x0F, 32);
+    restart(s);
+    from = overdrive_all(s);
+    SEND(s, 0xF0, 0x00, 0x00);
+    read_bytes(s, 1);
+    bits(s, 0, 2);
+    event(s, 2);
+    hurry(s, from);
+    slots(s, 2);
+    CHECK(r, look(s, &b->image) == 0);
+    CHECK(r, all_counts(s, from + 24, 4, 5));
+    CHECK(r, all_counts(s, from + 28, 4, 4));
+    CHECK(r, all_counts(s, from + 32, 2, 0));
+    CHECK(r, all_counts(s, from + 34, 1, 255));
+    CHECK(r, all_counts(s, from + 35, 2, 5));
+}
+
+static void overdrive(struct report *r, struct bench *b)
+{
+    overdrive_example(r, b);
+    not_heard(r, b, 0x06);
+    not_heard(r, b, 0x0C);
+    overdrive_unknown(r, b);
+    for (int flat = 0; flat < 2; flat++)
+        for (int before = 0; before < 2; before++)
+            overdrive_match(r, b, before, flat);
+    falling_back(r, b);
+    partial_bytes(r, b);
+    staying_at_overdrive(r, b);
+    side_by_side(r, b);
+    looked_at_overdrive(r, b);
 }
 
 /* ------------------------------------------------------------------ */
@@ -1140,7 +1518,7 @@ static void refusal_1(struct report *r, struct bench *b)
         both_refuse(r, b, edition != 1 && edition != 2);
     }
     for (unsigned family = 0; family < 256; family++)
-        if (family != 0x08 && family != 0x06 && family != 0x09) {
+        if (body_size((uint8_t)family) == 144 && family != 0x09) {
             make_image(&b->image, four, 4);
             b->image.bytes[2 + 4 * 3] = (uint8_t)family;
             both_refuse(r, b, 1);
@@ -1203,6 +1581,54 @@ static void refusals_2_3_4(struct report *r, struct bench *b)
     both_refuse(r, b, 0);
 }
 
+/* The kinds of an image of so many bytes with seven DS1996; gives how many. */
+static size_t kinds_for_length(uint8_t *families, size_t length)
+{
+    const size_t rest = length - 2 - 7 * (4 + 8235);
+
+    for (size_t a = 0; a <= 14; a++)
+        for (size_t b = 0; a + b <= 57; b++) {
+            const size_t others = 559 * a + 175 * b;
+            const size_t c = others > rest ? 0 : (rest - others) / 148;
+
+            if (others + 148 * c != rest || a + b + c > 57)
+                continue;
+            memset(families, 0x0C, 7);
+            memset(families + 7, 0x06, a);
+            memset(families + 7 + a, 0x08, b);
+            memset(families + 7 + a + b, 0x09, c);
+            return 7 + a + b + c;
+        }
+    return 0;
+}
+
+/* Lengths about the most there can be, and eight DS1996. */
+static void refusal_2_of_large_images(struct report *r, struct bench *b)
+{
+    uint8_t families[64];
+    size_t tried = 0;
+
+    title("refusal 2: images of over 65,535 bytes");
+    for (size_t length = 65500; length < 65600; length++) {
+        const size_t n = kinds_for_length(families, length);
+
+        if (n == 0)
+            continue;
+        make_image(&b->image, families, n);
+        CHECK(r, b->image.length == length);
+        both_refuse(r, b, length <= 65535 ? 0 : 2);
+        tried += length == 65535 || length == 65536;
+    }
+    CHECK(r, tried == 2);
+    memset(families, 0x0C, 8);
+    make_image(&b->image, families, 8);
+    both_refuse(r, b, 2);
+    b->image.bytes[1] = 3;
+    both_refuse(r, b, 1);
+    make_image(&b->image, families, 7);
+    both_refuse(r, b, 0);
+}
+
 static void refusals_5_6_7(struct report *r, struct bench *b)
 {
     static uint8_t trace[EVENTS + 1], answers[EVENTS + 1];
@@ -1216,7 +1642,7 @@ static void refusals_5_6_7(struct report *r, struct bench *b)
     trace[0] = 2;
     memset(answers, 9, sizeof answers);
     CHECK(r, run(r, &b->image, trace, EVENTS + 1, answers, EVENTS + 1) == 5);
-    for (unsigned e = 4; e < 256; e++) {
+    for (unsigned e = 7; e < 256; e++) {
         trace[EVENTS - 1] = (uint8_t)e;
         CHECK(r, run(r, &b->image, trace, EVENTS, answers, EVENTS) == 5);
     }
@@ -1240,6 +1666,10 @@ static void refusals_5_6_7(struct report *r, struct bench *b)
     trace[1] = 3;
     CHECK(r, run(r, &b->image, trace, 2, answers, 2) == 0);
     CHECK(r, answers[0] == 1 && answers[1] == 1);
+    make_image(&b->image, (const uint8_t[]){ 0x09, 0x0C }, 2);
+    CHECK(r, run(r, &b->image, trace, 2, answers, 2) == 6);
+    trace[0] = 6;
+    CHECK(r, run(r, &b->image, trace, 2, answers, 2) == 11);
 }
 
 /* A capture that begins within a transaction; no capture at all is none. */
@@ -1248,7 +1678,7 @@ static void refusal_11(struct report *r, struct bench *b)
     uint8_t trace[] = { 2, 0, 2, 1 }, answers[4];
 
     title("refusal 11: the first event is no reset");
-    for (unsigned first = 0; first <= 3; first++)
+    for (unsigned first = 0; first <= 6; first++)
         for (size_t length = 0; length <= 4; length++)
             for (size_t n = 0; n <= 4; n += 4) {
                 make_image(&b->image, four, n);
@@ -1302,7 +1732,7 @@ static void refusals_together(struct report *r, struct bench *b)
         memcpy(trace, "\2\0\1\1", 4);
         memset(answers, 9, 4);
         if (causes & 16)
-            trace[3] = 4;
+            trace[3] = 7;
         if (causes & 32)
             trace[1] = 3;
         if (causes & 128)
@@ -1371,11 +1801,12 @@ static size_t pass_levels(uint8_t (*codes)[CODE], size_t n, size_t k,
 
 static void many_codes(uint8_t (*codes)[CODE], size_t n, uint64_t seed)
 {
-    static const uint8_t families[] = { 0x08, 0x06, 0x09 };
+    static const uint8_t families[] = { 0x08, 0x06, 0x09, 0x0C };
+    const size_t kinds = n <= 24 ? 4 : 3; /* few DS1996 fit an image */
 
     for (size_t i = 0; i < n; i++) {
         seed = seed * 6364136223846793005u + 1442695040888963407u;
-        make_code(codes[i], families[i % 3], seed >> 16);
+        make_code(codes[i], families[i % kinds], seed >> 16);
     }
     qsort(codes, n, CODE, by_bit_order);
 }
@@ -1539,6 +1970,7 @@ static void published(struct report *r, struct bench *b)
     published_codes(r);
     worked_example(r, b, 0x08);
     worked_example(r, b, 0x06);
+    worked_example(r, b, 0x0C);
 }
 
 static void devices(struct report *r, struct bench *b)
@@ -1557,8 +1989,10 @@ static void devices(struct report *r, struct bench *b)
     copies_add_up(r, b);
     flat_alone(r, b, 0x08);
     flat_alone(r, b, 0x06);
+    flat_alone(r, b, 0x0C);
     flat_beside_good(r, b);
     listening(r, b);
+    overdrive(r, b);
     eprom_reads(r, b);
     eprom_writes(r, b);
     eprom_pulses(r, b);
@@ -1578,6 +2012,7 @@ int main(void)
     refusal_1(&report, &bench);
     refusal_1_of_batteries(&report, &bench);
     refusals_2_3_4(&report, &bench);
+    refusal_2_of_large_images(&report, &bench);
     refusals_5_6_7(&report, &bench);
     refusal_11(&report, &bench);
     refusals_together(&report, &bench);
@@ -1586,6 +2021,8 @@ int main(void)
     master_end_10(&report, &buffers);
     search_and_replay(&report, &bench, &buffers, 0, 1, 0);
     search_and_replay(&report, &bench, &buffers, 1, 2, 0);
+    search_and_replay(&report, &bench, &buffers, 24, 6, 0);
+    search_and_replay(&report, &bench, &buffers, 24, 7, 1);
     search_and_replay(&report, &bench, &buffers, 40, 3, 0);
     search_and_replay(&report, &bench, &buffers, 64, 4, 0);
     search_and_replay(&report, &bench, &buffers, 64, 5, 1);

@@ -104,6 +104,7 @@ module _ (image : List ℕ) (known : Known image) where
     known-kept : Known P
     known-kept = record {
       entries = omega (arith, count-kept image known ds, length-append (tableOfContents image) (bodiesOf ds), contents-length image known);
+      short = omega (arith, size-kept, known .whole, known .short);
       few = omega (arith, count-kept image known ds, known .few);
       edition = ap editionKnown (contents-at image known ds 1 (omega arith)) ∙ known .edition;
       battery = λ i h.

@@ -5,7 +5,7 @@ use mathlib.Core.Bool.{Bool, true, false, not, cond, _&&_, _||_, or-assoc, or-fa
 use mathlib.Core.List.{List, [], _∷_, _++_}
 use native.Mathlib.Omega.{arith}
 use native.Mathlib.Numerals.{add-one}
-use lib.ListN.{length, getD, drop, drop-of-length-le, length-set, length-append, length-drop}
+use lib.ListN.{length, getD, take, drop, drop-of-length-le, length-set, length-append, length-drop}
 use lib.Seq.{drop-cons, length-take-le}
 use lib.Dec.{eqb, ltb, leb, lit<}
 use borrow.Author.Tests.{leb-true, ltb-true, ltb-false, le-ltb}
@@ -18,9 +18,9 @@ use Rattle.bus.specs.Refusal.{someByte, badTrace, noFirstReset, badPulse
 use Rattle.bus.specs.declared.Place.{Place}
 use Rattle.device.proofs.Keeps.{slot-keeps, reset-keeps, program-keeps}
 use Rattle.bus.specs.declared.Event.{Event}
-use Rattle.bus.specs.declared.Event.the-variants.{Slot, Reset, Pulse}
-use Rattle.bus.specs.Bus.{Device, eventOf}
-use Rattle.bus.specs.Loops.{nextBodyAsIs, passedOver, placeIn, deviceAtPlace, deviceIn, imageWithBody, turnImage, lineAt, fewerOf, BusState, turnAt, turnsUpTo, filledUpTo, RunState, runEventAt, runEventsUpTo}
+use Rattle.bus.specs.declared.Event.the-variants.{Slot, Reset, Pulse, OverdriveSlot, OverdriveReset}
+use Rattle.bus.specs.Bus.{Device, eventOf, hears}
+use Rattle.bus.specs.Loops.{heardBodyAsIs, nextBodyAsIs, passedOver, placeIn, kindIn, bodyIn, deviceAtPlace, deviceIn, imageWithBody, turnImage, lineAt, fewerOf, BusState, turnAt, turnsUpTo, filledUpTo, RunState, runEventAt, runEventsUpTo}
 use Rattle.bus.specs.Loops.{levelOn, stepOn, mostCopied, addedTo, copiedUpTo, copiedByEvents}
 
 -- ---- the place of a body
@@ -42,6 +42,15 @@ place-inside image i = place-inside-at image i (ltb i (countOf image)) (leb (off
 
 pub inside-of : (image : List ℕ) (i : ℕ) (place : Place) → place ≡ placeIn image i → Inside place (length image)
 inside-of image i place e = subst (λ (p : Place). Inside p (length image)) (sym e) (place-inside image i)
+
+-- it has the device's kind and body
+pub place-has : (image : List ℕ) (i : ℕ) (place : Place) → place ≡ placeIn image i
+    → (kindIn image i ≡ place .kind) × (bodyIn image i ≡ take (place .end - place .start) (drop (place .start) image))
+unfolding kindIn bodyIn
+place-has image i place e = (
+  ap (λ (p : Place). p .kind) (sym e),
+  ap (λ (p : Place). take (p .end - p .start) (drop (p .start) image)) (sym e),
+)
 
 -- ---- a test at some byte of a trace
 
@@ -112,7 +121,7 @@ pub run-causes : (image trace : List ℕ) (answers lines : ℕ) → imageRefusal
 unfolding runRefusal runCauses imageCauses imageRefusal firstCause
 run-causes image trace answers lines h =
     first-none (imageCauses image) (causes-left image trace answers lines)
-    (lit< tt, (lit< tt, (lit< tt, (lit< tt, tt)))) h
+    (lit< tt, (lit< tt, (lit< tt, (lit< tt, (lit< tt, tt))))) h
 
 -- what is not refused: an accepted image, a trace of events that all devices take, and room
 pub record Admitted (image trace : List ℕ) (answers lines : ℕ) : Type 0 where
@@ -163,7 +172,7 @@ admitted image trace answers lines e =
 -- a trace that is not refused has no more events than a run takes
 pub short-trace : (trace : List ℕ) → badTrace trace ≡ false → length trace ≤ 32768
 unfolding badTrace
-short-trace trace e = ltb-false 32768 (length trace) (neither (ltb 32768 (length trace)) (someByte (λ byte. ltb 3 byte) trace) e .0)
+short-trace trace e = ltb-false 32768 (length trace) (neither (ltb 32768 (length trace)) (someByte (λ byte. ltb 6 byte) trace) e .0)
 
 -- and back
 pub not-refused : (image trace : List ℕ) (answers lines : ℕ) → Admitted image trace answers lines → runRefusal image trace answers lines ≡ 0
@@ -190,11 +199,22 @@ unfolding imageWithBody
 with-body-length image place body h e =
     simp (length-append, length-drop, length-take-le (place .start) image (omega (arith, h .rising, h .within)), e) (omega (arith, h .rising, h .within))
 
+either-length : (b : Bool) (xs ys zs : List ℕ) → length xs ≡ length zs → length ys ≡ length zs → length (cond b xs ys) ≡ length zs
+either-length true xs ys zs h k = h
+either-length false xs ys zs h k = k
+
+heard-kept : (event : Event) (level : Bool) (d : Device) → length (heardBodyAsIs event level d) ≡ length (d .body)
+unfolding heardBodyAsIs
+heard-kept (Slot sent) level d = slot-keeps (d .state) (d .kind) (d .body) level .same-length
+heard-kept Reset level d = reset-keeps (d .state) (d .body) .same-length
+heard-kept Pulse level d = program-keeps (d .state) (d .body) .same-length
+heard-kept (OverdriveSlot sent) level d = slot-keeps (d .state) (d .kind) (d .body) level .same-length
+heard-kept OverdriveReset level d = reset-keeps (d .state) (d .body) .same-length
+
 body-kept : (event : Event) (level : Bool) (d : Device) → length (nextBodyAsIs event level d) ≡ length (d .body)
 unfolding nextBodyAsIs
-body-kept (Slot sent) level d = slot-keeps (d .state) (d .kind) (d .body) level .same-length
-body-kept Reset level d = reset-keeps (d .state) (d .body) .same-length
-body-kept Pulse level d = program-keeps (d .state) (d .body) .same-length
+body-kept event level d =
+    either-length (hears event (d .state)) (heardBodyAsIs event level d) (d .body) (d .body) (heard-kept event level d) refl
 
 put-length : (image : List ℕ) (i : ℕ) (state : LineState) (byte : ℕ) (level : Bool)
     → length (imageWithBody image (placeIn image i) (nextBodyAsIs (eventOf byte) level (deviceIn image i state))) ≡ length image
@@ -205,10 +225,6 @@ put-length image i state byte level =
     (body-kept (eventOf byte) level (deviceIn image i state)
     ∙ length-take-le (placeIn image i .end - placeIn image i .start) (drop (placeIn image i .start) image)
     (rw length-drop (omega (arith, h .rising, h .within))))
-
-either-length : (b : Bool) (xs ys zs : List ℕ) → length xs ≡ length zs → length ys ≡ length zs → length (cond b xs ys) ≡ length zs
-either-length true xs ys zs h k = h
-either-length false xs ys zs h k = k
 
 turn-image-length : (image : List ℕ) (i : ℕ) (state : LineState) (byte : ℕ) (level : Bool)
     → length (turnImage image i state byte level) ≡ length image

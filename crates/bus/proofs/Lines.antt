@@ -35,9 +35,9 @@ use Rattle.bus.proofs.EventResult.Laws as E′
 use Rattle.bus.proofs.RunResult as N
 use Rattle.bus.proofs.RunResult.Laws as N′
 
--- how many bytes a line state takes. It is the one number that the walks take from its layout: `rt mir` shows it, in `mul(_, 8u64)`
+-- how many bytes a line state takes. It is the one number that the walks take from its layout: `rt mir` shows it, in `mul(_, 9u64)`
 abbrev pub width : ℕ
-width = 8
+width = 9
 
 -- the place of an element that is there does not wrap, and neither does the next index
 pub fits-at : (i n : ℕ) → n * width < 2 ^ 63 → i < n → i * width < 2 ^ 64

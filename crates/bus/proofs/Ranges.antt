@@ -12,14 +12,16 @@ use mathlib.Core.Bool.{Bool, true, false, cond, not, _&&_, _||_}
 use mathlib.Core.List.{List, [], _∷_, _++_, map}
 use lib.ListN.{length, take, drop}
 use Rattle.kind.specs.Kind.{bodySize}
-use Rattle.device.specs.Device.{waitingState, lineStateInRange, sendsOf, sendsAsIs, stateAfterSlot}
+use Rattle.device.specs.declared.LineState.{LineState}
+use Rattle.device.specs.Device.{lineStateInRange, sendsOf}
+use Rattle.device.proofs.Range.{sized, taken-as-is, overdrive-reset-in-range}
 use Rattle.device.proofs.Range.{step-in-range, reset-in-range, pulse-in-range, waiting-in-range, sends-same, step-same, write-same, copies-same, reset-same, pulse-same, program-same}
 use Rattle.bus.specs.declared.Event.{Event}
-use Rattle.bus.specs.declared.Event.the-variants.{Slot, Reset, Pulse}
-use Rattle.bus.specs.Bus.{Device, deviceWith, eventOf, pullsLow, someLow, presenceLevel, levelOf, nextState, nextBody, nextDevice, busStepAt, busStep, withAnswer, runTrace}
-use Rattle.bus.specs.Bus.{upToFirstLow, lookedAt, copiedIn}
+use Rattle.bus.specs.declared.Event.the-variants.{Slot, Reset, Pulse, OverdriveSlot, OverdriveReset}
+use Rattle.bus.specs.Bus.{Device, deviceWith, eventOf, hears, answersLow, takenState, heardState, heardBody, unheardState, pullsLow, someLow, masterHigh, levelOf, nextState, nextBody, nextDevice, busStepAt, busStep, withAnswer, runTrace}
+use Rattle.bus.specs.Bus.{upToFirstLow, readSlot, lookedAt, heardCopied, copiedIn}
 use Rattle.bus.specs.Run.{statesOf}
-use Rattle.bus.specs.Loops.{nextStateAsIs, nextBodyAsIs, allHigh, nothingThere, levelAsIs}
+use Rattle.bus.specs.Loops.{heardStateAsIs, heardBodyAsIs, heardCopiedAsIs, nextStateAsIs, nextBodyAsIs, answersHigh, leavesHigh, allHigh, levelAsIs}
 use Rattle.bus.specs.Loops.{upToLow, lookedAsIs, copiedAsIs}
 
 abbrev pub InRange : Device → Type 0
@@ -32,29 +34,73 @@ AllIn (d ∷ ds) = InRange d × AllIn ds
 -- ---- one device
 
 module _ (d : Device) (ranged : InRange d) where
+  taken-is : takenState d ≡ d .state
+  unfolding takenState
+  taken-is = taken-as-is (d .state) (d .kind) (d .body) ranged
+
+  heard-state : (event : Event) (level : Bool) → heardStateAsIs event level d ≡ heardState event level d
+  unfolding heardStateAsIs heardState
+  heard-state (Slot sent) level = sym (step-same (d .state) (d .kind) (d .body) ranged level)
+  heard-state Reset level = refl
+  heard-state Pulse level = sym (pulse-same (d .state) (d .kind) (d .body) ranged)
+  heard-state (OverdriveSlot sent) level = sym (step-same (d .state) (d .kind) (d .body) ranged level)
+  heard-state OverdriveReset level = refl
+
+  heard-body : (event : Event) (level : Bool) → heardBodyAsIs event level d ≡ heardBody event level d
+  unfolding heardBodyAsIs heardBody
+  heard-body (Slot sent) level = sym (write-same (d .state) (d .kind) (d .body) ranged level)
+  heard-body Reset level = sym (reset-same (d .state) (d .kind) (d .body) ranged)
+  heard-body Pulse level = sym (program-same (d .state) (d .kind) (d .body) ranged)
+  heard-body (OverdriveSlot sent) level = sym (write-same (d .state) (d .kind) (d .body) ranged level)
+  heard-body OverdriveReset level = sym (reset-same (d .state) (d .kind) (d .body) ranged)
+
+  heard-copied : (event : Event) (level : Bool) → heardCopiedAsIs event level d ≡ heardCopied event level d
+  unfolding heardCopiedAsIs heardCopied
+  heard-copied (Slot sent) level = sym (copies-same (d .state) (d .kind) (d .body) ranged level)
+  heard-copied Reset level = refl
+  heard-copied Pulse level = refl
+  heard-copied (OverdriveSlot sent) level = sym (copies-same (d .state) (d .kind) (d .body) ranged level)
+  heard-copied OverdriveReset level = refl
+
   pub as-it-is-state : (event : Event) (level : Bool) → nextStateAsIs event level d ≡ nextState event level d
   unfolding nextStateAsIs nextState
-  as-it-is-state (Slot sent) level = sym (step-same (d .state) (d .kind) (d .body) ranged level)
-  as-it-is-state Reset level = refl
-  as-it-is-state Pulse level = sym (pulse-same (d .state) (d .kind) (d .body) ranged)
+  as-it-is-state event level = λ i.
+      cond (hears event (sym taken-is i)) (heard-state event level i) (unheardState event (sym taken-is i))
 
   pub as-it-is-body : (event : Event) (level : Bool) → nextBodyAsIs event level d ≡ nextBody event level d
   unfolding nextBodyAsIs nextBody
-  as-it-is-body (Slot sent) level = sym (write-same (d .state) (d .kind) (d .body) ranged level)
-  as-it-is-body Reset level = sym (reset-same (d .state) (d .kind) (d .body) ranged)
-  as-it-is-body Pulse level = sym (program-same (d .state) (d .kind) (d .body) ranged)
+  as-it-is-body event level = λ i. cond (hears event (sym taken-is i)) (heard-body event level i) (d .body)
 
   pub as-it-is-copied : (event : Event) (level : Bool) → copiedAsIs event level d ≡ copiedIn event level d
   unfolding copiedAsIs copiedIn
-  as-it-is-copied (Slot sent) level = sym (copies-same (d .state) (d .kind) (d .body) ranged level)
-  as-it-is-copied Reset level = refl
-  as-it-is-copied Pulse level = refl
+  as-it-is-copied event level = λ i. cond (hears event (sym taken-is i)) (heard-copied event level i) 0
+
+  heard-in : (event : Event) (level : Bool) → hears event (d .state) ≡ true
+      → lineStateInRange (heardStateAsIs event level d) (d .kind) (heardBodyAsIs event level d) ≡ true
+  unfolding heardStateAsIs heardBodyAsIs hears
+  heard-in (Slot sent) level heard = step-in-range (d .state) (d .kind) (d .body) ranged level
+  heard-in Reset level heard = reset-in-range (d .state) (d .kind) (d .body) ranged
+  heard-in Pulse level heard = pulse-in-range (d .state) (d .kind) (d .body) ranged
+  heard-in (OverdriveSlot sent) level heard = step-in-range (d .state) (d .kind) (d .body) ranged level
+  heard-in OverdriveReset level heard = overdrive-reset-in-range (d .state) (d .kind) (d .body) ranged heard
+
+  unheard-in : (event : Event) → lineStateInRange (unheardState event (d .state)) (d .kind) (d .body) ≡ true
+  unfolding unheardState
+  unheard-in (Slot sent) = waiting-in-range (d .kind) (d .body) (sized (d .state) (d .kind) (d .body) ranged)
+  unheard-in Reset = ranged
+  unheard-in Pulse = ranged
+  unheard-in (OverdriveSlot sent) = ranged
+  unheard-in OverdriveReset = ranged
 
   as-it-is-in : (event : Event) (level : Bool) → lineStateInRange (nextStateAsIs event level d) (d .kind) (nextBodyAsIs event level d) ≡ true
   unfolding nextStateAsIs nextBodyAsIs
-  as-it-is-in (Slot sent) level = step-in-range (d .state) (d .kind) (d .body) ranged level
-  as-it-is-in Reset level = reset-in-range (d .state) (d .kind) (d .body) ranged
-  as-it-is-in Pulse level = pulse-in-range (d .state) (d .kind) (d .body) ranged
+  as-it-is-in event level = choose (hears event (d .state)) refl
+    where
+      choose : (heard : Bool) → hears event (d .state) ≡ heard
+          → lineStateInRange (cond heard (heardStateAsIs event level d) (unheardState event (d .state))) (d .kind)
+          (cond heard (heardBodyAsIs event level d) (d .body)) ≡ true
+      choose true e = heard-in event level e
+      choose false e = unheard-in event
 
   -- an event keeps it in range
   pub next-in : (event : Event) (level : Bool) → InRange (nextDevice event level d)
@@ -86,41 +132,63 @@ in-at (x ∷ xs) d ys r = in-at xs d ys (r .1)
 
 -- ---- the level of an event
 
-high-as-it-is : (ds : List Device) → AllIn ds → allHigh (statesOf ds) ≡ not (someLow ds)
-unfolding allHigh someLow pullsLow
-high-as-it-is [] r = refl
-high-as-it-is (d ∷ ds) r =
-    rw (high-as-it-is ds (r .1), sym (sends-same (d .state) (d .kind) (d .body) (r .0))) (choose (sendsOf (d .state) (d .kind) (d .body)) (someLow ds))
-  where
-    choose : (sent low : Bool) → (sent && not low) ≡ not (not sent || low)
-    choose true low = refl
-    choose false low = refl
+pub double : (b : Bool) → not (not b) ≡ b
+double true = refl
+double false = refl
 
-pub level-as-it-is : (event : Event) (ds : List Device) → AllIn ds → levelAsIs event (statesOf ds) ≡ levelOf event ds
-unfolding levelAsIs levelOf nothingThere presenceLevel
-level-as-it-is (Slot true) ds r = high-as-it-is ds r
-level-as-it-is (Slot false) ds r = refl
-level-as-it-is Reset [] r = refl
-level-as-it-is Reset (d ∷ ds) r = refl
-level-as-it-is Pulse ds r = refl
+answers : (event : Event) (d : Device) → InRange d → answersHigh event (d .state) ≡ not (answersLow event d)
+unfolding answersHigh answersLow
+answers (Slot sent) d r = sym (double (sendsOf (d .state) (d .kind) (d .body)) ∙ sends-same (d .state) (d .kind) (d .body) r)
+answers Reset d r = refl
+answers Pulse d r = refl
+answers (OverdriveSlot sent) d r =
+    sym (double (sendsOf (d .state) (d .kind) (d .body)) ∙ sends-same (d .state) (d .kind) (d .body) r)
+answers OverdriveReset d r = refl
 
--- ---- how many devices it looks at
+module _ (event : Event) where
+  -- one device
+  one-as-it-is : (d : Device) → InRange d → leavesHigh event (d .state) ≡ not (pullsLow event d)
+  unfolding leavesHigh pullsLow
+  one-as-it-is d r =
+      ap (λ (s : LineState). not (hears event s) || answersHigh event (d .state)) (sym (taken-is d r))
+      ∙ ap (λ (b : Bool). not (hears event (takenState d)) || b) (answers event d r)
+      ∙ choose (hears event (takenState d)) (answersLow event d)
+    where
+      choose : (heard low : Bool) → (not heard || not low) ≡ not (heard && low)
+      choose true low = refl
+      choose false low = refl
 
-up-to-low-as-it-is : (ds : List Device) → AllIn ds → upToLow (statesOf ds) ≡ upToFirstLow ds
-unfolding upToLow upToFirstLow pullsLow
-up-to-low-as-it-is [] r = refl
-up-to-low-as-it-is (d ∷ ds) r =
-    rw (up-to-low-as-it-is ds (r .1), sym (sends-same (d .state) (d .kind) (d .body) (r .0)))
-    (ap suc (choose (sendsOf (d .state) (d .kind) (d .body)) (upToFirstLow ds)))
-  where
-    choose : (sent : Bool) (rest : ℕ) → cond sent rest 0 ≡ cond (not sent) 0 rest
-    choose true rest = refl
-    choose false rest = refl
+  high-as-it-is : (ds : List Device) → AllIn ds → allHigh event (statesOf ds) ≡ not (someLow event ds)
+  unfolding allHigh someLow
+  high-as-it-is [] r = refl
+  high-as-it-is (d ∷ ds) r =
+      rw (high-as-it-is ds (r .1), one-as-it-is d (r .0)) (choose (pullsLow event d) (someLow event ds))
+    where
+      choose : (one low : Bool) → (not one && not low) ≡ not (one || low)
+      choose true low = refl
+      choose false low = refl
 
-pub looked-as-it-is : (event : Event) (ds : List Device) → AllIn ds
-    → lookedAsIs event (statesOf ds) ≡ lookedAt event ds
-unfolding lookedAsIs lookedAt
-looked-as-it-is (Slot true) ds r = up-to-low-as-it-is ds r
-looked-as-it-is (Slot false) ds r = refl
-looked-as-it-is Reset ds r = refl
-looked-as-it-is Pulse ds r = refl
+  pub level-as-it-is : (ds : List Device) → AllIn ds → levelAsIs event (statesOf ds) ≡ levelOf event ds
+  unfolding levelAsIs levelOf
+  level-as-it-is ds r =
+      ap (λ (b : Bool). masterHigh event && b) (high-as-it-is ds r) ∙ choose (masterHigh event) (someLow event ds)
+    where
+      choose : (high low : Bool) → (high && not low) ≡ not (not high || low)
+      choose true low = refl
+      choose false low = refl
+
+  -- ---- how many devices it looks at
+
+  up-to-low-as-it-is : (ds : List Device) → AllIn ds → upToLow event (statesOf ds) ≡ upToFirstLow event ds
+  unfolding upToLow upToFirstLow
+  up-to-low-as-it-is [] r = refl
+  up-to-low-as-it-is (d ∷ ds) r =
+      rw (up-to-low-as-it-is ds (r .1), one-as-it-is d (r .0)) (ap suc (choose (pullsLow event d) (upToFirstLow event ds)))
+    where
+      choose : (low : Bool) (rest : ℕ) → cond (not low) rest 0 ≡ cond low 0 rest
+      choose true rest = refl
+      choose false rest = refl
+
+  pub looked-as-it-is : (ds : List Device) → AllIn ds → lookedAsIs event (statesOf ds) ≡ lookedAt event ds
+  unfolding lookedAsIs lookedAt
+  looked-as-it-is ds r = ap (λ (n : ℕ). cond (readSlot event) n 0) (up-to-low-as-it-is ds r)

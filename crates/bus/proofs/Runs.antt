@@ -6,7 +6,7 @@
 --     Same, run-same   a run changes no device's kind, no body's length, no code, and no body where the battery is flat
 use Prim.Native.Nat.{ℕ, zero, suc, _+_, _*_, _≤_}
 use mathlib.Core.Path.{_≡_, refl, ap, _∙_}
-use mathlib.Core.Bool.{Bool, true}
+use mathlib.Core.Bool.{Bool, true, false, cond}
 use mathlib.Core.List.{List, [], _∷_, _++_, map}
 use native.Mathlib.Omega.{arith}
 use lib.ListN.{length, take, drop}
@@ -15,9 +15,9 @@ use Rattle.device.proofs.Laws.{write-length, reset-length, program-length, writ
 use Rattle.device.proofs.Laws.{slot-copies}
 use Rattle.device.proofs.Laws.{flat-write, flat-reset, flat-program}
 use Rattle.bus.specs.declared.Event.{Event}
-use Rattle.bus.specs.declared.Event.the-variants.{Slot, Reset, Pulse}
+use Rattle.bus.specs.declared.Event.the-variants.{Slot, Reset, Pulse, OverdriveSlot, OverdriveReset}
 use Rattle.bus.specs.Bus.{Device, eventOf, nextBody, nextDevice, busStepAt, busStep, Run, withAnswer, runTrace}
-use Rattle.bus.specs.Bus.{levelOf, copiedIn, copiedByAll, copiedInTrace}
+use Rattle.bus.specs.Bus.{takenState, hears, heardBody, heardCopied, levelOf, copiedIn, copiedByAll, copiedInTrace}
 
 -- ---- one trace after another
 
@@ -47,24 +47,51 @@ pub data AllSame : List Device → List Device → Type 0 where
   none : AllSame [] []
   also : {d e : Device} {ds es : List Device} → Same d e → AllSame ds es → AllSame (d ∷ ds) (e ∷ es)
 
-pub next-length : (event : Event) (level : Bool) (d : Device) → length (nextBody event level d) ≡ length (d .body)
+heard-length : (event : Event) (level : Bool) (d : Device) → length (heardBody event level d) ≡ length (d .body)
+unfolding heardBody
+heard-length (Slot sent) level d = write-length (d .state) (d .kind) (d .body) level
+heard-length Reset level d = reset-length (d .state) (d .kind) (d .body)
+heard-length Pulse level d = program-length (d .state) (d .kind) (d .body)
+heard-length (OverdriveSlot sent) level d = write-length (d .state) (d .kind) (d .body) level
+heard-length OverdriveReset level d = reset-length (d .state) (d .kind) (d .body)
+
+heard-code : (event : Event) (level : Bool) (d : Device) → take codeLength (heardBody event level d) ≡ take codeLength (d .body)
+unfolding heardBody
+heard-code (Slot sent) level d = write-code (d .state) (d .kind) (d .body) level
+heard-code Reset level d = reset-code (d .state) (d .kind) (d .body)
+heard-code Pulse level d = program-code (d .state) (d .kind) (d .body)
+heard-code (OverdriveSlot sent) level d = write-code (d .state) (d .kind) (d .body) level
+heard-code OverdriveReset level d = reset-code (d .state) (d .kind) (d .body)
+
+heard-flat : (event : Event) (level : Bool) (d : Device) → isFlat (d .kind) ≡ true → heardBody event level d ≡ d .body
+unfolding heardBody
+heard-flat (Slot sent) level d flat = flat-write (d .state) (d .kind) (d .body) flat level
+heard-flat Reset level d flat = flat-reset (d .state) (d .kind) (d .body) flat
+heard-flat Pulse level d flat = flat-program (d .state) (d .kind) (d .body) flat
+heard-flat (OverdriveSlot sent) level d flat = flat-write (d .state) (d .kind) (d .body) flat level
+heard-flat OverdriveReset level d flat = flat-reset (d .state) (d .kind) (d .body) flat
+
+-- what holds of a body that is heard and of the one before holds of the next
+next-body : (P : List ℕ → Type 0) (event : Event) (level : Bool) (d : Device) → P (heardBody event level d) → P (d .body)
+    → P (nextBody event level d)
 unfolding nextBody
-next-length (Slot sent) level d = write-length (d .state) (d .kind) (d .body) level
-next-length Reset level d = reset-length (d .state) (d .kind) (d .body)
-next-length Pulse level d = program-length (d .state) (d .kind) (d .body)
+next-body P event level d p q = choose (hears event (takenState d))
+  where
+    choose : (heard : Bool) → P (cond heard (heardBody event level d) (d .body))
+    choose true = p
+    choose false = q
+
+pub next-length : (event : Event) (level : Bool) (d : Device) → length (nextBody event level d) ≡ length (d .body)
+next-length event level d =
+    next-body (λ (l : List ℕ). length l ≡ length (d .body)) event level d (heard-length event level d) refl
 
 next-code : (event : Event) (level : Bool) (d : Device) → take codeLength (nextBody event level d) ≡ take codeLength (d .body)
-unfolding nextBody
-next-code (Slot sent) level d = write-code (d .state) (d .kind) (d .body) level
-next-code Reset level d = reset-code (d .state) (d .kind) (d .body)
-next-code Pulse level d = program-code (d .state) (d .kind) (d .body)
+next-code event level d =
+    next-body (λ (l : List ℕ). take codeLength l ≡ take codeLength (d .body)) event level d (heard-code event level d) refl
 
 -- no event changes the body of a device with a flat battery, at any level and in any line state
 pub next-flat : (event : Event) (level : Bool) (d : Device) → isFlat (d .kind) ≡ true → nextBody event level d ≡ d .body
-unfolding nextBody
-next-flat (Slot sent) level d flat = flat-write (d .state) (d .kind) (d .body) flat level
-next-flat Reset level d flat = flat-reset (d .state) (d .kind) (d .body) flat
-next-flat Pulse level d flat = flat-program (d .state) (d .kind) (d .body) flat
+next-flat event level d flat = next-body (λ (l : List ℕ). l ≡ d .body) event level d (heard-flat event level d flat) refl
 
 pub next-same : (event : Event) (level : Bool) (d : Device) → Same (nextDevice event level d) d
 unfolding nextDevice
@@ -130,11 +157,21 @@ all-copied-append event level [] es = omega arith
 all-copied-append event level (d ∷ ds) es = omega (arith, all-copied-append event level ds es)
 
 -- how many they are at most
+heard-copied-most : (event : Event) (level : Bool) (d : Device) → heardCopied event level d ≤ 32
+unfolding heardCopied
+heard-copied-most (Slot sent) level d = slot-copies (d .state) (d .kind) (d .body) level
+heard-copied-most Reset level d = omega arith
+heard-copied-most Pulse level d = omega arith
+heard-copied-most (OverdriveSlot sent) level d = slot-copies (d .state) (d .kind) (d .body) level
+heard-copied-most OverdriveReset level d = omega arith
+
 pub one-copied-most : (event : Event) (level : Bool) (d : Device) → copiedIn event level d ≤ 32
 unfolding copiedIn
-one-copied-most (Slot sent) level d = slot-copies (d .state) (d .kind) (d .body) level
-one-copied-most Reset level d = omega arith
-one-copied-most Pulse level d = omega arith
+one-copied-most event level d = choose (hears event (takenState d))
+  where
+    choose : (heard : Bool) → cond heard (heardCopied event level d) 0 ≤ 32
+    choose true = heard-copied-most event level d
+    choose false = omega arith
 
 pub all-copied-most : (event : Event) (level : Bool) (ds : List Device)
     → copiedByAll event level ds ≤ 32 * length ds

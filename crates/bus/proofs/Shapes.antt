@@ -22,14 +22,17 @@ looks-on-shape = record {
   gives = truth;
 }
 
-abbrev pub sends-shape : Shape
-sends-shape = record { lifetimes = 0; outlives = []; kinds = dataK line ∷ []; gives = truth }
+abbrev pub hears-shape : Shape
+hears-shape = record { lifetimes = 0; outlives = []; kinds = dataK (num w8) ∷ dataK line ∷ []; gives = truth }
+
+abbrev pub leaves-high-shape : Shape
+leaves-high-shape = record { lifetimes = 0; outlives = []; kinds = dataK (num w8) ∷ dataK line ∷ []; gives = truth }
 
 abbrev pub scan-of-shape : Shape
 scan-of-shape = record {
   lifetimes = 0;
   outlives = [];
-  kinds = dataK (num w8) ∷ dataK (num w64) ∷ dataK truth ∷ dataK (num w64) ∷ [];
+  kinds = dataK (num w8) ∷ dataK truth ∷ dataK (num w64) ∷ [];
   gives = scan;
 }
 
@@ -87,15 +90,15 @@ abbrev pub turn-shape : Shape
 turn-shape = record {
   lifetimes = 1;
   outlives = [];
-  kinds = mutK 0 tt u8 ∷ dataK (num w64) ∷ dataK line ∷ dataK (num w8) ∷ [];
-  gives = line;
+  kinds = mutK 0 tt u8 ∷ dataK (num w64) ∷ dataK line ∷ dataK (num w8) ∷ dataK truth ∷ [];
+  gives = slot-turn;
 }
 
 abbrev pub read-turn-shape : Shape
 read-turn-shape = record {
   lifetimes = 1;
   outlives = [];
-  kinds = shrK 0 tt u8 ∷ dataK (num w64) ∷ dataK line ∷ dataK (num w8) ∷ [];
+  kinds = shrK 0 tt u8 ∷ dataK (num w64) ∷ dataK line ∷ dataK (num w8) ∷ dataK truth ∷ [];
   gives = line;
 }
 
@@ -128,8 +131,8 @@ abbrev pub turn-all-shape : Shape
 turn-all-shape = record {
   lifetimes = 2;
   outlives = [];
-  kinds = mutK 0 tt u8 ∷ mutK 1 tt R ∷ dataK (num w64) ∷ dataK (num w8) ∷ [];
-  gives = nil;
+  kinds = mutK 0 tt u8 ∷ mutK 1 tt R ∷ dataK (num w64) ∷ dataK (num w8) ∷ dataK truth ∷ [];
+  gives = num w64;
 }
 
 abbrev pub step-event-shape : Shape
@@ -160,7 +163,7 @@ abbrev pub read-turn-all-shape : Shape
 read-turn-all-shape = record {
   lifetimes = 2;
   outlives = [];
-  kinds = shrK 0 tt u8 ∷ mutK 1 tt R ∷ dataK (num w64) ∷ dataK (num w8) ∷ [];
+  kinds = shrK 0 tt u8 ∷ mutK 1 tt R ∷ dataK (num w64) ∷ dataK (num w8) ∷ dataK truth ∷ [];
   gives = nil;
 }
 

@@ -2,44 +2,62 @@
 -- and any line states, with each loop's state by recursion on how many turns it has made. Where the image is not
 -- refused and there is room, this is what `Bus.antt` and `Run.antt` say (`proofs/Shown.antt`).
 use Prim.Native.Nat.{ℕ, zero, suc, _+_, _-_}
-use mathlib.Core.Bool.{Bool, true, false, cond, _&&_}
+use mathlib.Core.Bool.{Bool, true, false, not, cond, _&&_, _||_}
 use mathlib.Core.List.{List, [], _∷_, _++_, map}
 use lib.ListN.{length, getD, set, take, drop}
 use lib.Dec.{eqb, ltb, leb}
 use Rattle.bits.specs.Bit.{levelByte}
+use Rattle.kind.specs.declared.Kind.{Kind}
 use Rattle.kind.specs.declared.Kind.the-variants.{Unknown}
 use Rattle.kind.specs.Kind.{bodySize}
 use Rattle.image.specs.Image.{countOf, kindAt, offsetAt}
 use Rattle.device.specs.declared.LineState.{LineState}
-use Rattle.device.specs.Device.{waitingState, resetState, waits, sendsAsIs, stateAfterSlotAsIs, bodyAfterSlotAsIs}
+use Rattle.device.specs.Device.{waitingState, resetAt, resetState, waits, sendsAsIs, stateAfterSlotAsIs}
+use Rattle.device.specs.Device.{bodyAfterSlotAsIs}
 use Rattle.device.specs.Device.{bodyAfterResetAsIs, stateAfterPulseAsIs, bodyAfterPulseAsIs, bytesInSlotAsIs}
 use Rattle.bus.specs.declared.Event.{Event}
-use Rattle.bus.specs.declared.Event.the-variants.{Slot, Reset, Pulse}
+use Rattle.bus.specs.declared.Event.the-variants.{Slot, Reset, Pulse, OverdriveSlot, OverdriveReset}
 use Rattle.bus.specs.declared.Place.{Place}
 use Rattle.bus.specs.declared.Scan.{Scan}
 use Rattle.bus.specs.declared.SlotTurn.{SlotTurn}
 use Rattle.bus.specs.declared.EventResult.{EventResult}
-use Rattle.bus.specs.Bus.{Device, deviceWith, eventOf}
+use Rattle.bus.specs.Bus.{Device, deviceWith, eventOf, hears, masterHigh, readSlot, unheardState}
 
 -- ---- one device, without a test of its line state's range
 
 -- An event at a level leaves a device in this line state, which is not tested for its range, and with this body.
+unfoldable pub heardStateAsIs : Event → Bool → Device → LineState
+heardStateAsIs (Slot sent) level d = stateAfterSlotAsIs (d .state) (d .kind) (d .body) level
+heardStateAsIs Reset level d = resetState
+heardStateAsIs Pulse level d = stateAfterPulseAsIs (d .state) (d .body)
+heardStateAsIs (OverdriveSlot sent) level d = stateAfterSlotAsIs (d .state) (d .kind) (d .body) level
+heardStateAsIs OverdriveReset level d = resetAt true
+
+unfoldable pub heardBodyAsIs : Event → Bool → Device → List ℕ
+heardBodyAsIs (Slot sent) level d = bodyAfterSlotAsIs (d .state) (d .kind) (d .body) level
+heardBodyAsIs Reset level d = bodyAfterResetAsIs (d .state) (d .body)
+heardBodyAsIs Pulse level d = bodyAfterPulseAsIs (d .state) (d .body)
+heardBodyAsIs (OverdriveSlot sent) level d = bodyAfterSlotAsIs (d .state) (d .kind) (d .body) level
+heardBodyAsIs OverdriveReset level d = bodyAfterResetAsIs (d .state) (d .body)
+
+unfoldable pub heardCopiedAsIs : Event → Bool → Device → ℕ
+heardCopiedAsIs (Slot sent) level d = bytesInSlotAsIs (d .state) (d .kind) (d .body) level
+heardCopiedAsIs Reset level d = 0
+heardCopiedAsIs Pulse level d = 0
+heardCopiedAsIs (OverdriveSlot sent) level d = bytesInSlotAsIs (d .state) (d .kind) (d .body) level
+heardCopiedAsIs OverdriveReset level d = 0
+
 unfoldable pub nextStateAsIs : Event → Bool → Device → LineState
-nextStateAsIs (Slot sent) level d = stateAfterSlotAsIs (d .state) (d .kind) (d .body) level
-nextStateAsIs Reset level d = resetState
-nextStateAsIs Pulse level d = stateAfterPulseAsIs (d .state) (d .body)
+nextStateAsIs event level d =
+    cond (hears event (d .state)) (heardStateAsIs event level d) (unheardState event (d .state))
 
 unfoldable pub nextBodyAsIs : Event → Bool → Device → List ℕ
-nextBodyAsIs (Slot sent) level d = bodyAfterSlotAsIs (d .state) (d .kind) (d .body) level
-nextBodyAsIs Reset level d = bodyAfterResetAsIs (d .state) (d .body)
-nextBodyAsIs Pulse level d = bodyAfterPulseAsIs (d .state) (d .body)
+nextBodyAsIs event level d = cond (hears event (d .state)) (heardBodyAsIs event level d) (d .body)
 
 unfoldable pub copiedAsIs : Event → Bool → Device → ℕ
-copiedAsIs (Slot sent) level d = bytesInSlotAsIs (d .state) (d .kind) (d .body) level
-copiedAsIs Reset level d = 0
-copiedAsIs Pulse level d = 0
+copiedAsIs event level d = cond (hears event (d .state)) (heardCopiedAsIs event level d) 0
 
--- A device that waits is passed over in a slot.
+-- A device that waits at regular speed is passed over in a regular slot.
 unfoldable pub passedOver : ℕ → LineState → Bool
 passedOver byte state = ltb byte 2 && waits state
 
@@ -57,6 +75,12 @@ deviceAtPlace image place state =
 
 unfoldable pub deviceIn : List ℕ → ℕ → LineState → Device
 deviceIn image i state = deviceAtPlace image (placeIn image i) state
+
+unfoldable pub kindIn : List ℕ → ℕ → Kind
+kindIn image i = placeIn image i .kind
+
+unfoldable pub bodyIn : List ℕ → ℕ → List ℕ
+bodyIn image i = take (placeIn image i .end - placeIn image i .start) (drop (placeIn image i .start) image)
 
 -- A new body at a place leaves the rest of the image as it was.
 unfoldable pub imageWithBody : List ℕ → Place → List ℕ → List ℕ
@@ -89,34 +113,36 @@ addedTo sum bytes = cond (ltb (mostCopied - sum) bytes) mostCopied (sum + bytes)
 
 -- ---- the level of an event
 
--- The line stays high in a slot if each of these line states sends a 1.
-unfoldable pub allHigh : List LineState → Bool
-allHigh [] = true
-allHigh (state ∷ states) = sendsAsIs state && allHigh states
+-- A device leaves the line high in an event if it does not hear it, or if it answers with a 1.
+unfoldable pub answersHigh : Event → LineState → Bool
+answersHigh (Slot sent) state = sendsAsIs state
+answersHigh Reset state = false
+answersHigh Pulse state = true
+answersHigh (OverdriveSlot sent) state = sendsAsIs state
+answersHigh OverdriveReset state = false
 
--- A reset finds no presence if there is no line state, and so no device.
-unfoldable pub nothingThere : List LineState → Bool
-nothingThere [] = true
-nothingThere (state ∷ states) = false
+unfoldable pub leavesHigh : Event → LineState → Bool
+leavesHigh event state = not (hears event state) || answersHigh event state
+
+-- The line stays high if each of these line states leaves it high.
+unfoldable pub allHigh : Event → List LineState → Bool
+allHigh event [] = true
+allHigh event (state ∷ states) = leavesHigh event state && allHigh event states
 
 unfoldable pub levelAsIs : Event → List LineState → Bool
-levelAsIs (Slot sent) states = sent && allHigh states
-levelAsIs Reset states = nothingThere states
-levelAsIs Pulse states = true
+levelAsIs event states = masterHigh event && allHigh event states
 
 -- The level of an event is that of the first n devices, or of fewer where fewer line states are lent.
 unfoldable pub levelOn : List LineState → ℕ → ℕ → Bool
 levelOn lines n byte = levelAsIs (eventOf byte) (take n lines)
 
--- A slot's level looks at the line states up to and including the first that pulls the line low.
-unfoldable pub upToLow : List LineState → ℕ
-upToLow [] = 0
-upToLow (state ∷ states) = suc (cond (sendsAsIs state) (upToLow states) 0)
+-- The level looks at the line states up to and including the first that pulls the line low.
+unfoldable pub upToLow : Event → List LineState → ℕ
+upToLow event [] = 0
+upToLow event (state ∷ states) = suc (cond (leavesHigh event state) (upToLow event states) 0)
 
 unfoldable pub lookedAsIs : Event → List LineState → ℕ
-lookedAsIs (Slot sent) states = cond sent (upToLow states) 0
-lookedAsIs Reset states = 0
-lookedAsIs Pulse states = 0
+lookedAsIs event states = cond (readSlot event) (upToLow event states) 0
 
 unfoldable pub lookedOn : List LineState → ℕ → ℕ → ℕ
 lookedOn lines n byte = lookedAsIs (eventOf byte) (take n lines)
@@ -129,22 +155,17 @@ scanOn lines n byte = record { level = levelOn lines n byte; looked = lookedOn l
 unfoldable pub fewerOf : ℕ → ℕ → ℕ
 fewerOf a b = cond (ltb a b) a b
 
--- All of n devices are asked in a slot in which the master sends 1, and none in any other event. Where `high` tells
--- whether those that were asked leave the line high, the level of the event is `levelWhere`.
-unfoldable pub askedOf : ℕ → ℕ → ℕ
-askedOf byte n = cond (eqb byte 1) n 0
+-- All of n devices are asked unless the master holds the line low.
+unfoldable pub askedOf : Event → ℕ → ℕ
+askedOf event n = cond (masterHigh event) n 0
 
-unfoldable pub levelWhere : Event → ℕ → Bool → Bool
-levelWhere (Slot sent) n high = sent && high
-levelWhere Reset n high = eqb n 0
-levelWhere Pulse n high = true
-
--- The scan of a slot goes on until a device pulls low or the last has been asked.
+-- The scan of an event goes on until a device pulls low or the last has been asked.
 unfoldable pub goesOnAt : Bool → ℕ → ℕ → Bool
 goesOnAt high looked asked = high && ltb looked asked
 
-unfoldable pub scanWhere : Event → ℕ → Bool → ℕ → Scan
-scanWhere event n high looked = record { level = levelWhere event n high; looked = looked }
+-- Where `high` tells whether those that were asked leave the line high, this is the scan.
+unfoldable pub scanWhere : Event → Bool → ℕ → Scan
+scanWhere event high looked = record { level = masterHigh event && high; looked = cond (readSlot event) looked 0 }
 
 -- ---- the turns of all devices
 

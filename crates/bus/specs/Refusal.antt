@@ -1,5 +1,5 @@
--- Document 01, 'Refusals in order', and document 02, item 6, are stated here: the causes 5, 11, 6 and 7, each over the
--- whole input. They come after the causes that the image alone can give.
+-- Document 01, 'Refusals in order', and document 02, items 6 and 9, are stated here: the causes 5, 11, 6 and 7, each
+-- over the whole input. They come after the causes that the image alone can give.
 use Prim.Native.Nat.{ℕ}
 use mathlib.Core.Bool.{Bool, true, false, not, _&&_, _||_}
 use mathlib.Core.List.{List, [], _∷_, _++_}
@@ -14,11 +14,11 @@ unfoldable pub someByte : (ℕ → Bool) → List ℕ → Bool
 someByte p [] = false
 someByte p (byte ∷ trace) = p byte || someByte p trace
 
--- Cause 5 is a trace of over 32,768 events, or with a byte over 3.
+-- Cause 5 is a trace of over 32,768 events, or with a byte over 6 (document 02, item 9).
 unfoldable pub badTrace : List ℕ → Bool
-badTrace trace = ltb 32768 (length trace) || someByte (λ byte. ltb 3 byte) trace
+badTrace trace = ltb 32768 (length trace) || someByte (λ byte. ltb 6 byte) trace
 
--- Cause 11 is a trace that is not empty and does not begin with a reset, a 2 (document 02, item 6).
+-- Cause 11 is a trace that is not empty and does not begin with a regular reset, a 2 (document 02, item 6).
 unfoldable pub noFirstReset : List ℕ → Bool
 noFirstReset [] = false
 noFirstReset (byte ∷ trace) = not (eqb byte 2)

@@ -8,28 +8,33 @@ use image::ACCEPTED;
 use kind::Kind;
 ghost use mathlib.Core.Path.{_≡_};
 ghost use Prim.Native.Nat.{_≤_};
-ghost use mathlib.Core.Bool.{true, not, _||_};
+ghost use mathlib.Core.Bool.{true, not, cond, _||_};
 ghost use lib.ListN.{length};
 ghost use lib.Dec.{eqb, ltb};
 ghost use Rattle.image.specs.Image.{countOf, kindAt};
 ghost use Rattle.image.specs.Refusal.{someBelow};
 ghost use Rattle.kind.specs.Kind.{isEprom};
-ghost use Rattle.bus.specs.Bus.{eventOf};
+ghost use Rattle.bus.specs.Bus.{eventOf, hears};
 ghost use Rattle.bus.specs.Refusal.{someByte, badTrace, noFirstReset, badPulse, noRunRoom};
 ghost use Rattle.bus.specs.Refusal.{runRefusal};
 ghost use Rattle.bus.specs.Run.{RunLeaves, runOf, runResult};
-ghost use Rattle.bus.specs.Loops.{placeIn, askedOf, levelWhere, goesOnAt, scanWhere, turnState, turnImage};
+ghost use Rattle.bus.specs.Loops.{placeIn, askedOf, goesOnAt, scanWhere, turnState, turnImage, leavesHigh};
+ghost use Rattle.bus.specs.Loops.{imageWithBody, kindIn, bodyIn};
 ghost use Rattle.bus.specs.Loops.{turnCopied, slotTurn, addedTo, copiedUpTo, copiedOn, eventResult};
 ghost use Rattle.bus.specs.Loops.{copiedByEvents};
 ghost use Rattle.bus.specs.Loops.{fewerOf, scanOn, stepOn};
 ghost use Rattle.bus.specs.Loops.{turnStatesOf, busState, turnsUpTo, filledUpTo, runState, runEventsUpTo};
-ghost use Rattle.device.specs.Device.{waitingState};
+ghost use Rattle.device.specs.Device.{waitingState, resetAt, stateAfterSlotAsIs, bodyAfterSlotAsIs, bytesInSlotAsIs};
+ghost use Rattle.device.specs.Device.{bodyAfterResetAsIs, stateAfterPulseAsIs, bodyAfterPulseAsIs};
 
-// An event on the line is a slot in which the master sends a bit, a reset, or a program pulse.
+// An event on the line is a slot in which the master sends a bit, a reset, or a program pulse; slots and resets come at
+// regular speed or at overdrive.
 pub enum Event {
     Slot(bool),
     Reset,
     Pulse,
+    OverdriveSlot(bool),
+    OverdriveReset,
 }
 
 // A place is a device's kind and the part of the image that is its body.
@@ -39,14 +44,14 @@ struct Place {
     end: usize,
 }
 
-// A scan is the level of an event, and how many devices were looked at for it: in a slot in which the master sends 1,
-// those up to the first that pulls low, in entry order, else none.
+// A scan is the level of an event, and how many devices count as looked at for it: in a slot in which the master sends
+// 1, at either speed, those up to the first that pulls low, in entry order, else none.
 pub struct Scan {
     pub level: bool,
     pub looked: usize,
 }
 
-// The part of a device in a slot leaves it in a line state, and copies so many bytes to its memory.
+// The part of a device in an event leaves it in a line state, and copies so many bytes to its memory.
 struct SlotTurn {
     next: LineState,
     copied: u64,
@@ -73,8 +78,8 @@ const MOST_COPIED: u64 = 18446744073709551615;
 
 // ---- one device
 
-// Each byte of a trace is an event: 0 and 1 are slots, 2 is a reset, and any other counts as the program pulse. A run
-// refuses bytes over 3 before it comes here.
+// Each byte of a trace is an event: 0 and 1 are slots, 2 is a reset, 4, 5 and 6 are the same at overdrive, and any
+// other counts as the program pulse. A run refuses bytes over 6 before it comes here.
 fn event_of(byte: u8) -> Event
     ensures { λ r. ⌜ r ≡ eventOf byte ⌝ }
 {
@@ -82,7 +87,38 @@ fn event_of(byte: u8) -> Event
         0 => Event::Slot(false),
         1 => Event::Slot(true),
         2 => Event::Reset,
+        4 => Event::OverdriveSlot(false),
+        5 => Event::OverdriveSlot(true),
+        6 => Event::OverdriveReset,
         _ => Event::Pulse,
+    }
+}
+
+// A device hears a slot that comes at its own speed, and an overdrive reset if it is at overdrive. Every device hears a
+// regular reset and a program pulse.
+fn hears(byte: u8, state: LineState) -> bool
+    ensures { λ r. ⌜ r ≡ hears (eventOf byte) state ⌝ }
+{
+    match event_of(byte) {
+        Event::Slot(_) => !state.overdrive,
+        Event::Reset => true,
+        Event::Pulse => true,
+        Event::OverdriveSlot(_) => state.overdrive,
+        Event::OverdriveReset => state.overdrive,
+    }
+}
+
+// In an event a device leaves the line high if it does not hear it, or if it answers with a 1: in a slot it answers
+// with what it sends, and in a reset with its presence, a 0.
+fn leaves_high(byte: u8, state: LineState) -> bool
+    ensures { λ r. ⌜ r ≡ leavesHigh (eventOf byte) state ⌝ }
+{
+    match event_of(byte) {
+        Event::Slot(_) => state.overdrive | state.sends_as_is(),
+        Event::Reset => false,
+        Event::Pulse => true,
+        Event::OverdriveSlot(_) => !state.overdrive | state.sends_as_is(),
+        Event::OverdriveReset => !state.overdrive,
     }
 }
 
@@ -107,48 +143,120 @@ fn place_of(image: &[u8], i: usize) -> Place
     }
 }
 
-// All of n devices are asked for the level of a slot in which the master sends 1. The level of any other event does not
-// depend on what they send.
-fn asked(byte: u8, n: usize) -> usize
-    ensures { λ r. ⌜ r ≡ askedOf byte n ⌝ }
+// This is a number in a slot in which the master sends 1, and 0 in one in which it sends 0.
+fn where_sent(sent: bool, n: usize) -> usize
+    ensures { λ r. ⌜ r ≡ cond sent n 0 ⌝ }
 {
-    if byte == 1 { n } else { 0 }
+    if sent { n } else { 0 }
 }
 
-// The scan of a slot goes on until a device pulls low or the last has been asked.
+// All of n devices are asked for the level of an event but of a slot in which the master sends 0: its level does not
+// depend on what they send.
+fn asked(byte: u8, n: usize) -> usize
+    ensures { λ r. ⌜ r ≡ askedOf (eventOf byte) n ⌝ }
+{
+    match event_of(byte) {
+        Event::Slot(sent) => where_sent(sent, n),
+        Event::Reset => n,
+        Event::Pulse => n,
+        Event::OverdriveSlot(sent) => where_sent(sent, n),
+        Event::OverdriveReset => n,
+    }
+}
+
+// The scan of an event goes on until a device pulls low or the last has been asked.
 fn looks_on(high: bool, looked: usize, asked: usize) -> bool
     ensures { λ r. ⌜ r ≡ goesOnAt high looked asked ⌝ }
 {
     high & (looked < asked)
 }
 
-// This is the level of an event on n devices, where `high` tells whether those that were asked leave the line high.
-fn level_of(byte: u8, n: usize, high: bool) -> bool
-    ensures { λ r. ⌜ r ≡ levelWhere (eventOf byte) n high ⌝ }
+// A scan is the level of an event, where `high` tells whether those that were asked leave the line high, together with
+// the number of devices that were looked at for it. Only those of a slot are counted.
+fn scan_of(byte: u8, high: bool, looked: usize) -> Scan
+    ensures { λ r. ⌜ r ≡ scanWhere (eventOf byte) high looked ⌝ }
 {
     match event_of(byte) {
-        Event::Slot(sent) => sent & high,
-        Event::Reset => n == 0,
-        Event::Pulse => true,
+        Event::Slot(sent) => Scan {
+            level: sent & high,
+            looked: where_sent(sent, looked),
+        },
+        Event::Reset => Scan {
+            level: high,
+            looked: 0,
+        },
+        Event::Pulse => Scan {
+            level: high,
+            looked: 0,
+        },
+        Event::OverdriveSlot(sent) => Scan {
+            level: sent & high,
+            looked: where_sent(sent, looked),
+        },
+        Event::OverdriveReset => Scan {
+            level: high,
+            looked: 0,
+        },
     }
 }
 
-// A scan is the level of an event, together with the number of devices that were looked at for it.
-fn scan_of(byte: u8, n: usize, high: bool, looked: usize) -> Scan
-    ensures { λ r. ⌜ r ≡ scanWhere (eventOf byte) n high looked ⌝ }
+// This is what a slot at a level leaves of device i, which hears it. A run's line states are in range from the first
+// event on (proofs/Ranges.antt), so that no range is tested here.
+fn heard_slot(image: &mut [u8], i: usize, state: LineState, level: bool) -> SlotTurn
+    ensures { λ r. ⌜ (r ≡ slotTurn
+        (stateAfterSlotAsIs state (kindIn (now (image .entry)) i) (bodyIn (now (image .entry)) i) level)
+        (bytesInSlotAsIs state (kindIn (now (image .entry)) i) (bodyIn (now (image .entry)) i) level))
+        × (now (image .exit) ≡ imageWithBody (now (image .entry)) (placeIn (now (image .entry)) i)
+        (bodyAfterSlotAsIs state (kindIn (now (image .entry)) i) (bodyIn (now (image .entry)) i) level)) ⌝ }
 {
-    let level = level_of(byte, n, high);
-    Scan { level, looked }
+    let place = place_of(image, i);
+    let kind = place.kind;
+    let start = place.start;
+    let end = place.end;
+    let stepped = state.slot_as_is(kind, &mut image[start..end], level);
+    let next = stepped.next;
+    let copied = stepped.bytes() as u64;
+    SlotTurn { next, copied }
 }
 
-// This is device i's part in a slot at a level. Inside a transfer a slot only shifts the register, and a device that
-// waits has no part in it: a body is looked for only in the last slot of a transfer. A run's line states are in range
-// from the first event on (proofs/Ranges.antt), so that no range is tested here.
+// This is what a reset leaves of device i, which hears it.
+fn heard_reset(image: &mut [u8], i: usize, state: LineState, overdrive: bool) -> SlotTurn
+    ensures { λ r. ⌜ (r ≡ slotTurn (resetAt overdrive) 0)
+        × (now (image .exit) ≡ imageWithBody (now (image .entry)) (placeIn (now (image .entry)) i)
+        (bodyAfterResetAsIs state (bodyIn (now (image .entry)) i))) ⌝ }
+{
+    let place = place_of(image, i);
+    let start = place.start;
+    let end = place.end;
+    let next = state.reset_as_is(&mut image[start..end], overdrive);
+    SlotTurn { next, copied: 0 }
+}
+
+// This is what a program pulse leaves of device i.
+fn heard_pulse(image: &mut [u8], i: usize, state: LineState) -> SlotTurn
+    ensures { λ r. ⌜ (r ≡ slotTurn (stateAfterPulseAsIs state (bodyIn (now (image .entry)) i)) 0)
+        × (now (image .exit) ≡ imageWithBody (now (image .entry)) (placeIn (now (image .entry)) i)
+        (bodyAfterPulseAsIs state (bodyIn (now (image .entry)) i))) ⌝ }
+{
+    let place = place_of(image, i);
+    let start = place.start;
+    let end = place.end;
+    let next = state.pulse_as_is(&mut image[start..end]);
+    SlotTurn { next, copied: 0 }
+}
+
+// This is device i's part in a regular slot at a level. A device at overdrive does not hear it and then waits at
+// regular speed. Inside a transfer a slot only shifts the register, and a device that waits has no part in it: a body
+// is looked for only in the last slot of a transfer.
 fn slot(image: &mut [u8], i: usize, state: LineState, level: bool) -> SlotTurn
     ensures { λ r. ⌜ (r ≡ slotTurn (turnState (now (image .entry)) i state 1 level)
         (turnCopied (now (image .entry)) i state 1 level))
         × (now (image .exit) ≡ turnImage (now (image .entry)) i state 1 level) ⌝ }
 {
+    if state.overdrive {
+        let next = LineState::waiting();
+        return SlotTurn { next, copied: 0 };
+    }
     if state.goes_on() {
         let next = state.shifted(level);
         return SlotTurn { next, copied: 0 };
@@ -159,14 +267,7 @@ fn slot(image: &mut [u8], i: usize, state: LineState, level: bool) -> SlotTurn
             copied: 0,
         };
     }
-    let place = place_of(image, i);
-    let kind = place.kind;
-    let start = place.start;
-    let end = place.end;
-    let stepped = state.slot_as_is(kind, &mut image[start..end], level);
-    let next = stepped.next;
-    let copied = stepped.bytes() as u64;
-    SlotTurn { next, copied }
+    heard_slot(image, i, state, level)
 }
 
 // Bytes copied are added to a sum, which stays at the largest number where it would pass it. No run comes near: 64
@@ -218,16 +319,11 @@ fn run_result(number: u32, copied: u64) -> RunResult
     RunResult { number, copied }
 }
 
-// This is device i's line state after a slot at a level, for a search, which only reads the bodies.
-fn read_slot(image: &[u8], i: usize, state: LineState, level: bool) -> LineState
-    ensures { λ r. ⌜ r ≡ turnState (now (image .entry)) i state 1 level ⌝ }
+// This is device i's line state after a slot at a level, which it hears, for a search, which only reads the bodies.
+fn read_heard_slot(image: &[u8], i: usize, state: LineState, level: bool) -> LineState
+    ensures { λ r. ⌜ r
+        ≡ stateAfterSlotAsIs state (kindIn (now (image .entry)) i) (bodyIn (now (image .entry)) i) level ⌝ }
 {
-    if state.goes_on() {
-        return state.shifted(level);
-    }
-    if state.waits() {
-        return state;
-    }
     let place = place_of(image, i);
     let kind = place.kind;
     let start = place.start;
@@ -235,33 +331,61 @@ fn read_slot(image: &[u8], i: usize, state: LineState, level: bool) -> LineState
     state.step_as_is(kind, &image[start..end], level)
 }
 
-// This is device i's part in an event that is not a slot. No device receives the level of such an event.
-fn turn(image: &mut [u8], i: usize, state: LineState, byte: u8) -> LineState
-    requires { ⌜ 2 ≤ byte ⌝ }
-    ensures { λ r. ⌜ (r ≡ turnState (now (image .entry)) i state byte true)
-        × (now (image .exit) ≡ turnImage (now (image .entry)) i state byte true) ⌝ }
+// This is device i's line state after a program pulse, where the body is only read.
+fn read_heard_pulse(image: &[u8], i: usize, state: LineState) -> LineState
+    ensures { λ r. ⌜ r ≡ stateAfterPulseAsIs state (bodyIn (now (image .entry)) i) ⌝ }
 {
-    let place = place_of(image, i);
-    let start = place.start;
-    let end = place.end;
-    if byte == 2 {
-        return state.reset_as_is(&mut image[start..end]);
-    }
-    state.pulse_as_is(&mut image[start..end])
-}
-
-// This is device i's line state after an event that is not a slot, for a search, which only reads the bodies.
-fn read_turn(image: &[u8], i: usize, state: LineState, byte: u8) -> LineState
-    requires { ⌜ 2 ≤ byte ⌝ }
-    ensures { λ r. ⌜ r ≡ turnState (now (image .entry)) i state byte true ⌝ }
-{
-    if byte == 2 {
-        return LineState::at_reset();
-    }
     let place = place_of(image, i);
     let start = place.start;
     let end = place.end;
     state.pulsed_as_is(&image[start..end])
+}
+
+// This is device i's line state after a regular slot at a level, for a search, which only reads the bodies.
+fn read_slot(image: &[u8], i: usize, state: LineState, level: bool) -> LineState
+    ensures { λ r. ⌜ r ≡ turnState (now (image .entry)) i state 1 level ⌝ }
+{
+    if state.overdrive {
+        return LineState::waiting();
+    }
+    if state.goes_on() {
+        return state.shifted(level);
+    }
+    if state.waits() {
+        return state;
+    }
+    read_heard_slot(image, i, state, level)
+}
+
+// This is device i's part in an event that is not a regular slot and that it hears.
+fn turn(image: &mut [u8], i: usize, state: LineState, byte: u8, level: bool) -> SlotTurn
+    requires { ⌜ (2 ≤ byte) × (hears (eventOf byte) state ≡ true) ⌝ }
+    ensures { λ r. ⌜ (r ≡ slotTurn (turnState (now (image .entry)) i state byte level)
+        (turnCopied (now (image .entry)) i state byte level))
+        × (now (image .exit) ≡ turnImage (now (image .entry)) i state byte level) ⌝ }
+{
+    match event_of(byte) {
+        Event::Slot(_) => heard_slot(image, i, state, level),
+        Event::Reset => heard_reset(image, i, state, false),
+        Event::Pulse => heard_pulse(image, i, state),
+        Event::OverdriveSlot(_) => heard_slot(image, i, state, level),
+        Event::OverdriveReset => heard_reset(image, i, state, true),
+    }
+}
+
+// This is device i's line state after an event that is not a regular slot and that it hears, for a search, which only
+// reads the bodies.
+fn read_turn(image: &[u8], i: usize, state: LineState, byte: u8, level: bool) -> LineState
+    requires { ⌜ (2 ≤ byte) × (hears (eventOf byte) state ≡ true) ⌝ }
+    ensures { λ r. ⌜ r ≡ turnState (now (image .entry)) i state byte level ⌝ }
+{
+    match event_of(byte) {
+        Event::Slot(_) => read_heard_slot(image, i, state, level),
+        Event::Reset => LineState::at_reset(false),
+        Event::Pulse => read_heard_pulse(image, i, state),
+        Event::OverdriveSlot(_) => read_heard_slot(image, i, state, level),
+        Event::OverdriveReset => LineState::at_reset(true),
+    }
 }
 
 // Byte 0 of an image is the number of its devices.
@@ -286,21 +410,21 @@ fn either(a: bool, b: bool) -> bool
     if a { true } else { b }
 }
 
-// This tells whether a byte of the trace is over 3. The loop looks at every byte, as one that may end early would
+// This tells whether a byte of the trace is over 6. The loop looks at every byte, as one that may end early would
 // compile to a test of each byte by itself.
 fn has_unknown_event(trace: &[u8]) -> bool
-    ensures { λ r. ⌜ r ≡ someByte (λ byte. ltb 3 byte) (now (trace .entry)) ⌝ }
+    ensures { λ r. ⌜ r ≡ someByte (λ byte. ltb 6 byte) (now (trace .entry)) ⌝ }
 {
     let mut found = false;
     let mut k = 0;
     while k < trace.len() {
-        found = either(found, 3 < trace[k]);
+        found = either(found, 6 < trace[k]);
         k += 1;
     }
     found
 }
 
-// Cause 5 is a trace that is too long, or that has a byte over 3.
+// Cause 5 is a trace that is too long, or that has a byte over 6.
 fn is_bad_trace(trace: &[u8]) -> bool
     ensures { λ r. ⌜ r ≡ badTrace (now (trace .entry)) ⌝ }
 {
@@ -399,8 +523,9 @@ pub fn refusal(image: &[u8], trace: &[u8], answers: usize, lines: usize) -> u32
 // ---- all devices
 
 // The level of an event on the first n devices comes with how many of them were looked at, for any line states, which
-// are not tested for their range. A slot's level stops at the first device that pulls low, as nothing behind it changes
-// the level. A device that waits is looked at like any other. Only the line states are read, and nothing changes.
+// are not tested for their range. The scan stops at the first device that pulls low, as nothing behind it changes the
+// level. A device that waits or does not hear the event is looked at like any other. Only the line states are read, and
+// nothing changes.
 pub fn level(lines: &[LineState], n: usize, byte: u8) -> Scan
     ensures { λ r. ⌜ r ≡ scanOn (now (lines .entry)) n byte ⌝ }
 {
@@ -410,15 +535,15 @@ pub fn level(lines: &[LineState], n: usize, byte: u8) -> Scan
     let mut looked: usize = 0;
     while looks_on(high, looked, asked) {
         let state = lines[looked];
-        high = state.sends_as_is();
+        high = leaves_high(byte, state);
         looked = looked + 1;
     }
-    scan_of(byte, served, high, looked)
+    scan_of(byte, high, looked)
 }
 
-// Each of the first n devices has its part in a slot at a level, one after the other; no device's part depends on
-// another's. The bytes that they copy are added up. Slots have a loop of their own, as nearly all events are slots, and
-// each device's part in one is short.
+// Each of the first n devices has its part in a regular slot at a level, one after the other; no device's part depends
+// on another's. The bytes that they copy are added up. Regular slots have a loop of their own, as nearly all events are
+// such slots, and each device's part in one is short.
 fn slot_all(image: &mut [u8], lines: &mut [LineState], n: usize, level: bool) -> u64
     requires { ⌜ n ≤ length (now lines) ⌝ }
     ensures { λ r. ⌜ (r ≡ copiedUpTo 1 level n (busState (now (image .entry)) (now (lines .entry))))
@@ -439,23 +564,29 @@ fn slot_all(image: &mut [u8], lines: &mut [LineState], n: usize, level: bool) ->
     copied
 }
 
-// Each of the first n devices has its part in an event that is not a slot.
-fn turn_all(image: &mut [u8], lines: &mut [LineState], n: usize, byte: u8)
+// Each of the first n devices that hears it has its part in an event at a level that is not a regular slot; the others
+// stay as they are. The bytes that they copy are added up.
+fn turn_all(image: &mut [u8], lines: &mut [LineState], n: usize, byte: u8, level: bool) -> u64
     requires { ⌜ (n ≤ length (now lines)) × (2 ≤ byte) ⌝ }
-    ensures { λ _. ⌜ busState (now (image .exit)) (now (lines .exit))
-        ≡ turnsUpTo byte true n (busState (now (image .entry)) (now (lines .entry))) ⌝ }
+    ensures { λ r. ⌜ (r ≡ copiedUpTo byte level n (busState (now (image .entry)) (now (lines .entry))))
+        × (busState (now (image .exit)) (now (lines .exit))
+        ≡ turnsUpTo byte level n (busState (now (image .entry)) (now (lines .entry)))) ⌝ }
 {
+    let mut copied: u64 = 0;
     let mut i: usize = 0;
     while i < n {
         let state = lines[i];
-        let next = turn(image, i, state, byte);
-        lines[i] = next;
+        if hears(byte, state) {
+            let after = turn(image, i, state, byte, level);
+            lines[i] = state_after(after);
+            copied = add_turn(copied, after);
+        }
         i = i + 1;
     }
+    copied
 }
 
-// Each of the first n devices has its part in an event at its level. Only a slot copies bytes: neither a reset nor a
-// program pulse does.
+// Each of the first n devices has its part in an event at its level.
 fn step_event(image: &mut [u8], lines: &mut [LineState], n: usize, byte: u8, level: bool) -> u64
     requires { ⌜ n ≤ length (now lines) ⌝ }
     ensures { λ r. ⌜ (r ≡ copiedUpTo byte level n (busState (now (image .entry)) (now (lines .entry))))
@@ -466,7 +597,7 @@ fn step_event(image: &mut [u8], lines: &mut [LineState], n: usize, byte: u8, lev
     if byte < 2 {
         copied = slot_all(image, lines, n, level);
     } else {
-        turn_all(image, lines, n, byte);
+        copied = turn_all(image, lines, n, byte, level);
     }
     copied
 }
@@ -485,7 +616,7 @@ pub fn step(image: &mut [u8], lines: &mut [LineState], n: usize, byte: u8) -> Ev
     event_result(scan, copied)
 }
 
-// This leaves the line states of the first n devices as a slot at a level does. The image is only read.
+// This leaves the line states of the first n devices as a regular slot at a level does. The image is only read.
 fn read_slot_all(image: &[u8], lines: &mut [LineState], n: usize, level: bool)
     requires { ⌜ n ≤ length (now lines) ⌝ }
     ensures { λ _. ⌜ now (lines .exit) ≡ turnStatesOf (now (image .entry)) (now (lines .entry)) n 1 level ⌝ }
@@ -501,16 +632,19 @@ fn read_slot_all(image: &[u8], lines: &mut [LineState], n: usize, level: bool)
     }
 }
 
-// This leaves the line states of the first n devices as an event that is not a slot does. The image is only read.
-fn read_turn_all(image: &[u8], lines: &mut [LineState], n: usize, byte: u8)
+// This leaves the line states of the first n devices as an event at a level that is not a regular slot does. The image
+// is only read.
+fn read_turn_all(image: &[u8], lines: &mut [LineState], n: usize, byte: u8, level: bool)
     requires { ⌜ (n ≤ length (now lines)) × (2 ≤ byte) ⌝ }
-    ensures { λ _. ⌜ now (lines .exit) ≡ turnStatesOf (now (image .entry)) (now (lines .entry)) n byte true ⌝ }
+    ensures { λ _. ⌜ now (lines .exit) ≡ turnStatesOf (now (image .entry)) (now (lines .entry)) n byte level ⌝ }
 {
     let mut i: usize = 0;
     while i < n {
         let state = lines[i];
-        let next = read_turn(image, i, state, byte);
-        lines[i] = next;
+        if hears(byte, state) {
+            let next = read_turn(image, i, state, byte, level);
+            lines[i] = next;
+        }
         i = i + 1;
     }
 }
@@ -524,7 +658,7 @@ pub fn step_all(image: &[u8], lines: &mut [LineState], n: usize, byte: u8, level
     if byte < 2 {
         read_slot_all(image, lines, served, level);
     } else {
-        read_turn_all(image, lines, served, byte);
+        read_turn_all(image, lines, served, byte, level);
     }
 }
 

@@ -2,14 +2,14 @@
 -- middle of a transfer, that is in a ROM stage, and that has a flat battery. Assumes nothing.
 use Prim.Native.Nat.{ℕ, _≤_}
 use mathlib.Core.Path.{_≡_, refl, sym, ap, _∙_}
-use mathlib.Core.Bool.{Bool, true, false, not, cond, true≢false}
+use mathlib.Core.Bool.{Bool, true, false, not, cond, _&&_, true≢false}
 use mathlib.Core.List.{List}
 use native.Mathlib.Omega.{arith}
 use lib.ListN.{length, take}
 use lib.Dec.{eqb}
 use Rattle.bits.specs.Bit.{bitOf}
 use Rattle.kind.specs.declared.Kind.{Kind}
-use Rattle.kind.specs.Kind.{bodySize, codeLength, memorySize, isFlat}
+use Rattle.kind.specs.Kind.{bodySize, codeLength, memorySize, isFlat, speedKnown}
 use Rattle.line.specs.declared.RomStage.{RomStage}
 use Rattle.line.specs.declared.RomStage.the-variants.{Waiting}
 use Rattle.line.specs.declared.MemoryStage.the-variants.{Command, Sram, Eprom}
@@ -21,10 +21,10 @@ use Rattle.sram.specs.declared.CopyDone.{CopyDone}
 use Rattle.sram.specs.declared.CopyDone.the-variants.{NoCopy}
 use Rattle.sram.specs.Sram.{bytesCopied}
 use Rattle.sram.proofs.Laws.{copied-most}
-use Rattle.rom.specs.Rom.{addressed, romNext}
+use Rattle.rom.specs.Rom.{addressed, romNext, romSpeed}
 use Rattle.device.specs.declared.LineState.{LineState}
 use Rattle.device.specs.Device.{stageNext, stageWrite, memoryReset, stageReset, stagePulse, stageProgram}
-use Rattle.device.specs.Device.{lineState, waitingState, sendsAsIs, transferAfterSlot, stateAfterSlotAsIs, bodyAfterSlotAsIs}
+use Rattle.device.specs.Device.{lineState, waitingState, sendsAsIs, transferAfterSlot, stageSpeed, speedAfterSlot, stateAfterSlotAsIs, bodyAfterSlotAsIs}
 use Rattle.device.specs.Device.{bodyAfterResetAsIs, stateAfterPulseAsIs, bodyAfterPulseAsIs, memoryRange, stageRange}
 use Rattle.device.specs.Device.{lineStateInRange, orWaiting, sendsOf, stateAfterSlot}
 use Rattle.device.specs.Device.{bodyAfterSlot, bodyAfterReset, stateAfterPulse, bodyAfterPulse}
@@ -67,7 +67,7 @@ module _ (body : List ℕ) where
   waiting-sends-as-is = refl
 
   pub waiting-step-as-is : (kind : Kind) (level : Bool) → stateAfterSlotAsIs waitingState kind body level ≡ waitingState
-  unfolding stateAfterSlotAsIs transferAfterSlot stageNext romNext
+  unfolding stateAfterSlotAsIs transferAfterSlot speedAfterSlot stageNext stageSpeed romNext romSpeed
   waiting-step-as-is kind level = refl
 
   pub waiting-write-as-is : (kind : Kind) (level : Bool) → bodyAfterSlotAsIs waitingState kind body level ≡ body
@@ -135,8 +135,9 @@ module _ (kind : Kind) (body : List ℕ) where
 -- ---- a slot that is not the last of its transfer only moves the register on
 
 module _ (state : LineState) (kind : Kind) (body : List ℕ) (level : Bool) (more : goesOn (state .transfer) ≡ true) where
-  pub going-on-steps : stateAfterSlotAsIs state kind body level ≡ lineState (shifted (state .transfer) level)
-  unfolding stateAfterSlotAsIs transferAfterSlot
+  pub going-on-steps : stateAfterSlotAsIs state kind body level
+      ≡ lineState (shifted (state .transfer) level) (state .overdrive)
+  unfolding stateAfterSlotAsIs transferAfterSlot speedAfterSlot
   going-on-steps = rw more
 
   pub going-on-writes : bodyAfterSlotAsIs state kind body level ≡ body
@@ -225,12 +226,13 @@ module _ (state : LineState) (r : RomStage) (in-rom : state .transfer .stage ≡
       in-range-as-is (λ s. bodyAfterPulseAsIs s body ≡ body) (rom-program-as-is state r in-rom body) (waiting-program-as-is body)
 
 -- nor does a reset once the device is addressed
-pub addressed-reset : (kind : Kind) (body : List ℕ) → bodyAfterReset (lineState (addressed kind)) kind body ≡ body
+pub addressed-reset : (kind : Kind) (overdrive : Bool) (body : List ℕ)
+    → bodyAfterReset (lineState (addressed kind) overdrive) kind body ≡ body
 unfolding bodyAfterReset orWaiting bodyAfterResetAsIs stageReset memoryReset addressed
-addressed-reset kind body = choose (lineStateInRange (lineState (addressed kind)) kind body) (isFlat kind)
+addressed-reset kind overdrive body = choose (lineStateInRange (lineState (addressed kind) overdrive) kind body) (isFlat kind)
   where
     choose : (t flat : Bool)
-        → bodyAfterResetAsIs (cond t (lineState (cond flat waiting atMemoryCommand)) waitingState) body ≡ body
+        → bodyAfterResetAsIs (cond t (lineState (cond flat waiting atMemoryCommand) overdrive) waitingState) body ≡ body
     choose true true = refl
     choose true false = refl
     choose false flat = refl
@@ -238,11 +240,11 @@ addressed-reset kind body = choose (lineStateInRange (lineState (addressed kind)
 -- ---- a flat battery
 
 -- no memory stage of such a device is in range
-flat-stage : (stage : Stage) (kind : Kind) (register left : ℕ) → isFlat kind ≡ true
-    → stageRange stage kind register left ≡ true → (r : RomStage) × (stage ≡ Rom r)
+flat-stage : (stage : Stage) (kind : Kind) (overdrive : Bool) (register left : ℕ) → isFlat kind ≡ true
+    → stageRange stage kind overdrive register left ≡ true → (r : RomStage) × (stage ≡ Rom r)
 unfolding stageRange
-flat-stage (Rom r) kind register left flat h = (r, refl)
-flat-stage (Memory m) kind register left flat h =
+flat-stage (Rom r) kind overdrive register left flat h = (r, refl)
+flat-stage (Memory m) kind overdrive register left flat h =
     absurd (true≢false (sym (both (not (isFlat kind)) (memoryRange m kind left) h .0) ∙ ap not flat))
 
 -- so it is in a ROM stage once its line state is taken, whatever that was
@@ -255,8 +257,10 @@ flat-in-rom state kind body flat = choose (lineStateInRange state kind body) ref
         → (r : RomStage) × (cond t state waitingState .transfer .stage ≡ Rom r)
     choose true e =
         let t = state .transfer in
-        flat-stage (t .stage) kind (t .register) (t .left) flat
-        (both (eqb (length body) (bodySize kind)) (stageRange (t .stage) kind (t .register) (t .left)) e .1)
+        let known = speedKnown kind (state .overdrive) in
+        let numbers = stageRange (t .stage) kind (state .overdrive) (t .register) (t .left) in
+        flat-stage (t .stage) kind (state .overdrive) (t .register) (t .left) flat
+        (both known numbers (both (eqb (length body) (bodySize kind)) (known && numbers) e .1) .1)
     choose false e = (Waiting, refl)
 
 module _ (state : LineState) (kind : Kind) (body : List ℕ) (flat : isFlat kind ≡ true) where

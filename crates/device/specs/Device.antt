@@ -1,21 +1,21 @@
--- Document 01, 'The trace and its levels', and document 02, items 4 and 7, are stated here for one device: what it
+-- Document 01, 'The trace and its levels', and document 02, items 4, 7 and 9, are stated here for one device: what it
 -- sends in a slot, what a slot, a reset and a program pulse leave of its line state (document 01's line record) and of
 -- its body, and what a copy did in a slot.
 use Prim.Native.Nat.{ℕ}
-use mathlib.Core.Bool.{Bool, not, cond, _&&_}
+use mathlib.Core.Bool.{Bool, true, false, not, cond, _&&_}
 use mathlib.Core.List.{List}
 use lib.ListN.{length}
 use lib.Dec.{eqb}
 use Rattle.kind.specs.declared.Kind.{Kind}
 use Rattle.kind.specs.declared.Kind.the-variants as kinds
-use Rattle.kind.specs.Kind.{bodySize, memorySize, isSram, isEprom, isFlat}
+use Rattle.kind.specs.Kind.{bodySize, memorySize, isSram, isEprom, isFlat, speedKnown}
 use Rattle.line.specs.declared.MemoryStage.{MemoryStage}
 use Rattle.line.specs.declared.MemoryStage.the-variants.{Command, Sram, Eprom}
 use Rattle.line.specs.declared.Stage.{Stage}
 use Rattle.line.specs.declared.Stage.the-variants.{Rom, Memory}
 use Rattle.line.specs.declared.Transfer.{Transfer}
 use Rattle.line.specs.Transfers.{waiting, atRomCommand, underWay, transferSends, goesOn, received, shifted}
-use Rattle.rom.specs.Rom.{romNext, romRange}
+use Rattle.rom.specs.Rom.{romNext, romSpeed, romRange}
 use Rattle.sram.specs.declared.CopyDone.{CopyDone}
 use Rattle.sram.specs.declared.CopyDone.the-variants.{NoCopy}
 use Rattle.sram.specs.Sram.{sramCommand, sramNext, sramWrite, bytesCopied, sramCopy, sramReset, sramRange}
@@ -38,11 +38,17 @@ memoryNext Command kind value body = memoryCommand kind value body
 memoryNext (Sram s) kind value body = sramNext s (memorySize kind) value body
 memoryNext (Eprom e) kind value body = epromNext e value body
 
-unfoldable pub stageNext : Stage → Kind → ℕ → List ℕ → Bool → Transfer
-stageNext (Rom r) kind value body level = romNext r kind value body level
-stageNext (Memory m) kind value body level = memoryNext m kind value body
+unfoldable pub stageNext : Stage → Kind → Bool → ℕ → List ℕ → Bool → Transfer
+stageNext (Rom r) kind overdrive value body level = romNext r kind overdrive value body level
+stageNext (Memory m) kind overdrive value body level = memoryNext m kind value body
 
--- When a transfer ends, only a memory function of a DS1992 or DS1993 changes the body.
+-- The device is then at overdrive where this is true; `overdrive` tells whether it was so in the transfer. A memory
+-- stage does not change the speed (document 02, item 9).
+unfoldable pub stageSpeed : Stage → Kind → Bool → ℕ → List ℕ → Bool → Bool
+stageSpeed (Rom r) kind overdrive value body level = romSpeed r kind overdrive value body level
+stageSpeed (Memory m) kind overdrive value body level = overdrive
+
+-- When a transfer ends, only a memory function of a DS1992, DS1993 or DS1996 changes the body.
 unfoldable pub memoryWrite : MemoryStage → Kind → ℕ → List ℕ → Bool → List ℕ
 memoryWrite Command kind value body level = body
 memoryWrite (Sram s) kind value body level = sramWrite s (memorySize kind) value body level
@@ -52,7 +58,7 @@ unfoldable pub stageWrite : Stage → Kind → ℕ → List ℕ → Bool → Lis
 stageWrite (Rom r) kind value body level = body
 stageWrite (Memory m) kind value body level = memoryWrite m kind value body level
 
--- When a transfer ends, only a memory function of a DS1992 or DS1993 makes a copy.
+-- When a transfer ends, only a memory function of a DS1992, DS1993 or DS1996 makes a copy.
 unfoldable pub memoryCopy : MemoryStage → Kind → ℕ → List ℕ → CopyDone
 memoryCopy Command kind value body = NoCopy
 memoryCopy (Sram s) kind value body = sramCopy s (memorySize kind) value body
@@ -64,7 +70,7 @@ stageCopy (Memory m) kind value body = memoryCopy m kind value body
 
 -- ---- a reset and a program pulse, by the stage
 
--- A reset changes the body only in a memory function of a DS1992 or DS1993.
+-- A reset changes the body only in a memory function of a DS1992, DS1993 or DS1996.
 unfoldable pub memoryReset : MemoryStage → List ℕ → List ℕ
 memoryReset Command body = body
 memoryReset (Sram s) body = sramReset s body
@@ -96,20 +102,27 @@ stageProgram (Memory m) body = memoryProgram m body
 
 -- ---- a line state as it is
 
-abbrev pub lineState : Transfer → LineState
-lineState transfer = record { transfer = transfer }
+abbrev pub lineState : Transfer → Bool → LineState
+lineState transfer overdrive = record { transfer = transfer; overdrive = overdrive }
 
--- At the start of a run every device waits for a reset and answers 1.
+abbrev pub regularState : Transfer → LineState
+regularState transfer = lineState transfer false
+
+-- At the start of a run every device waits for a reset, at regular speed, and answers 1.
 abbrev pub waitingState : LineState
-waitingState = lineState waiting
+waitingState = regularState waiting
 
--- A reset puts each device at the ROM command.
+-- A reset puts each device at the ROM command: a regular one at regular speed, and an overdrive reset at overdrive,
+-- where `overdrive` is true.
+abbrev pub resetAt : Bool → LineState
+resetAt overdrive = lineState atRomCommand overdrive
+
 abbrev pub resetState : LineState
-resetState = lineState atRomCommand
+resetState = resetAt false
 
--- A device waits while it has no transfer under way.
+-- A device that has no transfer under way waits for a reset; here it does so at regular speed.
 unfoldable pub waits : LineState → Bool
-waits state = eqb (state .transfer .left) 0
+waits state = eqb (state .transfer .left) 0 && not (state .overdrive)
 
 -- This is the level that a device sends in a slot.
 unfoldable pub sendsAsIs : LineState → Bool
@@ -117,13 +130,21 @@ sendsAsIs state = transferSends (state .transfer)
 
 -- While a slot at a level of the line is not the last of its transfer, it only shifts the level into the register; with
 -- the last slot the stage decides which transfer follows.
-unfoldable pub transferAfterSlot : Transfer → Kind → List ℕ → Bool → Transfer
-transferAfterSlot transfer kind body level =
+unfoldable pub transferAfterSlot : Transfer → Kind → Bool → List ℕ → Bool → Transfer
+transferAfterSlot transfer kind overdrive body level =
     cond (goesOn transfer) (shifted transfer level)
-    (stageNext (transfer .stage) kind (received transfer level) body level)
+    (stageNext (transfer .stage) kind overdrive (received transfer level) body level)
+
+-- Only the last slot of a transfer changes the speed.
+unfoldable pub speedAfterSlot : Transfer → Kind → Bool → List ℕ → Bool → Bool
+speedAfterSlot transfer kind overdrive body level =
+    cond (goesOn transfer) overdrive
+    (stageSpeed (transfer .stage) kind overdrive (received transfer level) body level)
 
 unfoldable pub stateAfterSlotAsIs : LineState → Kind → List ℕ → Bool → LineState
-stateAfterSlotAsIs state kind body level = lineState (transferAfterSlot (state .transfer) kind body level)
+stateAfterSlotAsIs state kind body level =
+    lineState (transferAfterSlot (state .transfer) kind (state .overdrive) body level)
+    (speedAfterSlot (state .transfer) kind (state .overdrive) body level)
 
 -- Only the last slot of a transfer changes the body.
 unfoldable pub bodyAfterSlotAsIs : LineState → Kind → List ℕ → Bool → List ℕ
@@ -147,7 +168,8 @@ bodyAfterResetAsIs state body = stageReset (state .transfer .stage) body
 
 -- A program pulse changes the line state and the body as the stage in which it comes has it.
 unfoldable pub stateAfterPulseAsIs : LineState → List ℕ → LineState
-stateAfterPulseAsIs state body = lineState (stagePulse (state .transfer .stage) (state .transfer) body)
+stateAfterPulseAsIs state body =
+    lineState (stagePulse (state .transfer .stage) (state .transfer) body) (state .overdrive)
 
 unfoldable pub bodyAfterPulseAsIs : LineState → List ℕ → List ℕ
 bodyAfterPulseAsIs state body = stageProgram (state .transfer .stage) body
@@ -161,25 +183,28 @@ memoryRange (Sram s) kind left = isSram kind && sramRange s (memorySize kind) le
 memoryRange (Eprom e) kind left = isEprom kind && epromRange e left
 
 -- A device with a flat battery is in no memory stage (document 02, item 7).
-unfoldable pub stageRange : Stage → Kind → ℕ → ℕ → Bool
-stageRange (Rom r) kind register left = romRange r register left
-stageRange (Memory m) kind register left = not (isFlat kind) && memoryRange m kind left
+unfoldable pub stageRange : Stage → Kind → Bool → ℕ → ℕ → Bool
+stageRange (Rom r) kind overdrive register left = romRange r overdrive register left
+stageRange (Memory m) kind overdrive register left = not (isFlat kind) && memoryRange m kind left
 
--- A line state is in range if the body has its kind's size and the transfer's numbers are in their stage's range.
+-- A line state is in range if the body has its kind's size, the speed is one of its kind, and the transfer's numbers
+-- are in their stage's range.
 unfoldable pub lineStateInRange : LineState → Kind → List ℕ → Bool
 lineStateInRange state kind body =
     eqb (length body) (bodySize kind)
-    && stageRange (state .transfer .stage) kind (state .transfer .register) (state .transfer .left)
+    && (speedKnown kind (state .overdrive)
+    && stageRange (state .transfer .stage) kind (state .overdrive) (state .transfer .register) (state .transfer .left))
 
 -- Document 01 has a line state with a number outside its stage's range count as waiting. Our own ruling is that so does
--- one in a memory function of another kind, in a memory stage with a flat battery, or with a body that is not of its
--- kind's size: the documents have no such line state. The body of a device of an unknown family has size 0.
+-- one in a memory function of another kind, in a memory stage with a flat battery, at a speed that its kind does not
+-- have, or with a body that is not of its kind's size: the documents have no such line state. It waits at regular
+-- speed. The body of a device of an unknown family has size 0.
 unfoldable pub orWaiting : LineState → Kind → List ℕ → LineState
 orWaiting state kind body = cond (lineStateInRange state kind body) state waitingState
 
 -- ---- any line state
 
--- This is the level that a device sends in a slot, where a line state out of range counts as waiting.
+-- This is the level that a device sends in a slot that it hears, where a line state out of range counts as waiting.
 unfoldable pub sendsOf : LineState → Kind → List ℕ → Bool
 sendsOf state kind body = sendsAsIs (orWaiting state kind body)
 

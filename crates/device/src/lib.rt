@@ -1,11 +1,11 @@
 // This crate is one device on the line: its line state by value, and what a slot, a reset and a program pulse leave of
 // it and of its body.
 //
-// A slot is two functions, which are given the level of the line: `step` returns the line state after it and only reads
-// the body, for a search; `slot` returns the same line state, changes the body and says what a copy did, for a run. A
-// line state that the device cannot be in counts as waiting. The functions whose names end in `as_is` leave that test
-// out: no slot, reset or pulse leads out of the range (proofs/Range.antt), so that a run, whose devices wait at the
-// start, needs it nowhere.
+// A slot is two functions, which are given the level of the line in a slot that the device hears: `step` returns the
+// line state after it and only reads the body, for a search; `slot` returns the same line state, changes the body and
+// says what a copy did, for a run. A line state that the device cannot be in counts as waiting. The functions whose
+// names end in `as_is` leave that test out: no slot, reset or pulse leads out of the range (proofs/Range.antt), so that
+// a run, whose devices wait at the start, needs it nowhere.
 use kind::Kind;
 use line::MemoryStage;
 use line::Stage;
@@ -17,8 +17,8 @@ ghost use Rattle.device.specs.Device.{memoryCommand, memoryNext, stageNe
 ghost use Rattle.device.specs.Device.{stageReset, memoryPulse, stagePulse, memoryProgram, stageProgram};
 ghost use Rattle.sram.specs.Sram.{bytesCopied};
 ghost use Rattle.device.specs.Device.{memoryCopy, stageCopy, copyInSlotAsIs, copyInSlot};
-ghost use Rattle.device.specs.Device.{stepped, lineState};
-ghost use Rattle.device.specs.Device.{waitingState, resetState, waits, sendsAsIs, stateAfterSlotAsIs};
+ghost use Rattle.device.specs.Device.{stepped, lineState, resetAt, stageSpeed};
+ghost use Rattle.device.specs.Device.{waitingState, waits, sendsAsIs, stateAfterSlotAsIs};
 ghost use Rattle.device.specs.Device.{bodyAfterSlotAsIs, bodyAfterResetAsIs};
 ghost use Rattle.device.specs.Device.{stateAfterPulseAsIs, bodyAfterPulseAsIs, memoryRange, stageRange};
 ghost use Rattle.device.specs.Device.{lineStateInRange, orWaiting, sendsOf};
@@ -28,6 +28,8 @@ ghost use Rattle.device.specs.Device.{bodyAfterPulse};
 // A line state is where a device is on the line: document 01's line record.
 pub struct LineState {
     pub transfer: Transfer,
+    // The device is at overdrive speed, else at regular speed.
+    pub overdrive: bool,
 }
 
 // A slot hands up the line state after it, and what a copy did in it.
@@ -60,60 +62,103 @@ fn memory_next(m: MemoryStage, kind: Kind, value: u8, body: &[u8]) -> Transfer
 }
 
 // When the transfer of a stage ends, in which `value` was received and whose last slot was at `level`, this transfer
-// follows it.
-fn stage_next(stage: Stage, kind: Kind, value: u8, body: &[u8], level: bool) -> Transfer
-    ensures { λ r. ⌜ r ≡ stageNext stage kind value (now (body .entry)) level ⌝ }
+// follows it. The device was at overdrive in it where `overdrive` is true.
+fn stage_next(
+    stage: Stage,
+    kind: Kind,
+    overdrive: bool,
+    value: u8,
+    body: &[u8],
+    level: bool,
+) -> Transfer
+    ensures { λ r. ⌜ r ≡ stageNext stage kind overdrive value (now (body .entry)) level ⌝ }
 {
     match stage {
-        Stage::Rom(r) => rom::next(r, kind, value, body, level),
+        Stage::Rom(r) => rom::next(r, kind, overdrive, value, body, level),
         Stage::Memory(m) => memory_next(m, kind, value, body),
     }
 }
 
-fn stepped_to(transfer: Transfer, copy: CopyDone) -> Stepped
-    ensures { λ r. ⌜ r ≡ stepped (lineState transfer) copy ⌝ }
+// This tells whether the device is then at overdrive: only a ROM stage changes the speed.
+fn stage_speed(
+    stage: Stage,
+    kind: Kind,
+    overdrive: bool,
+    value: u8,
+    body: &[u8],
+    level: bool,
+) -> bool
+    ensures { λ r. ⌜ r ≡ stageSpeed stage kind overdrive value (now (body .entry)) level ⌝ }
 {
-    let next = LineState { transfer };
+    match stage {
+        Stage::Rom(r) => rom::speed(r, kind, overdrive, value, body, level),
+        Stage::Memory(_) => overdrive,
+    }
+}
+
+fn stepped_to(transfer: Transfer, overdrive: bool, copy: CopyDone) -> Stepped
+    ensures { λ r. ⌜ r ≡ stepped (lineState transfer overdrive) copy ⌝ }
+{
+    let next = LineState {
+        transfer,
+        overdrive,
+    };
     Stepped { next, copy }
 }
 
 // The next transfer is worked out from the body as it was: it comes before the body changes.
-fn memory_end(m: MemoryStage, kind: Kind, value: u8, body: &mut [u8], level: bool) -> Stepped
-    ensures { λ r. ⌜ (r ≡ stepped (lineState (memoryNext m kind value (now (body .entry))))
+fn memory_end(
+    m: MemoryStage,
+    kind: Kind,
+    overdrive: bool,
+    value: u8,
+    body: &mut [u8],
+    level: bool,
+) -> Stepped
+    ensures { λ r. ⌜ (r ≡ stepped (lineState (memoryNext m kind value (now (body .entry))) overdrive)
         (memoryCopy m kind value (now (body .entry))))
         × (now (body .exit) ≡ memoryWrite m kind value (now (body .entry)) level) ⌝ }
 {
     match m {
         MemoryStage::Command => {
             let next = memory_command(kind, value, body);
-            stepped_to(next, CopyDone::NoCopy)
+            stepped_to(next, overdrive, CopyDone::NoCopy)
         }
         MemoryStage::Sram(s) => {
             let size = kind::memory_size(kind);
             let next = sram::next(s, size, value, body);
             let copy = sram::write(s, size, value, body, level);
-            stepped_to(next, copy)
+            stepped_to(next, overdrive, copy)
         }
         MemoryStage::Eprom(e) => {
             let next = eprom::next(e, value, body);
-            stepped_to(next, CopyDone::NoCopy)
+            stepped_to(next, overdrive, CopyDone::NoCopy)
         }
     }
 }
 
-// The end of a transfer changes the body; this is the line state after it, and what a copy did. Only a DS1992 or DS1993
-// writes in a slot.
-fn stage_end(stage: Stage, kind: Kind, value: u8, body: &mut [u8], level: bool) -> Stepped
-    ensures { λ r. ⌜ (r ≡ stepped (lineState (stageNext stage kind value (now (body .entry)) level))
+// The end of a transfer changes the body; this is the line state after it, and what a copy did. Only a DS1992,
+// DS1993 or DS1996 writes in a slot.
+fn stage_end(
+    stage: Stage,
+    kind: Kind,
+    overdrive: bool,
+    value: u8,
+    body: &mut [u8],
+    level: bool,
+) -> Stepped
+    ensures { λ r. ⌜ (r ≡ stepped (lineState (stageNext stage kind overdrive value (now (body .entry)) level)
+        (stageSpeed stage kind overdrive value (now (body .entry)) level))
         (stageCopy stage kind value (now (body .entry))))
         × (now (body .exit) ≡ stageWrite stage kind value (now (body .entry)) level) ⌝ }
 {
     match stage {
         Stage::Rom(r) => {
-            let next = rom::next(r, kind, value, body, level);
-            stepped_to(next, CopyDone::NoCopy)
+            let next = rom::next(r, kind, overdrive, value, body, level);
+            let speed = rom::speed(r, kind, overdrive, value, body, level);
+            stepped_to(next, speed, CopyDone::NoCopy)
         }
-        Stage::Memory(m) => memory_end(m, kind, value, body, level),
+        Stage::Memory(m) => memory_end(m, kind, overdrive, value, body, level),
     }
 }
 
@@ -194,11 +239,11 @@ fn memory_in_range(m: MemoryStage, kind: Kind, left: u8) -> bool
 }
 
 // A device with a flat battery is in no memory stage.
-fn stage_in_range(stage: Stage, kind: Kind, register: u8, left: u8) -> bool
-    ensures { λ r. ⌜ r ≡ stageRange stage kind register left ⌝ }
+fn stage_in_range(stage: Stage, kind: Kind, overdrive: bool, register: u8, left: u8) -> bool
+    ensures { λ r. ⌜ r ≡ stageRange stage kind overdrive register left ⌝ }
 {
     match stage {
-        Stage::Rom(r) => rom::in_range(r, register, left),
+        Stage::Rom(r) => rom::in_range(r, overdrive, register, left),
         Stage::Memory(m) => !kind::is_flat(kind) & memory_in_range(m, kind, left),
     }
 }
@@ -217,32 +262,35 @@ impl Stepped {
 }
 
 impl LineState {
-    // Every device waits at the start of a run.
+    // Every device waits at the start of a run, at regular speed.
     pub fn waiting() -> LineState
         ensures { λ r. ⌜ r ≡ waitingState ⌝ }
     {
         LineState {
             transfer: line::waiting(),
+            overdrive: false,
         }
     }
 
-    // A reset leaves every device at the ROM command.
-    pub fn at_reset() -> LineState
-        ensures { λ r. ⌜ r ≡ resetState ⌝ }
+    // A reset leaves a device at the ROM command, at the speed of the reset.
+    pub fn at_reset(overdrive: bool) -> LineState
+        ensures { λ r. ⌜ r ≡ resetAt overdrive ⌝ }
     {
         LineState {
             transfer: line::at_rom_command(),
+            overdrive,
         }
     }
 
     // ---- a line state as it is
 
-    // A device waits while it has no transfer under way. It sends ones and stays as it is until a reset.
+    // A device waits while it has no transfer under way. At regular speed it then sends ones and stays as it is until a
+    // reset.
     pub fn waits(self) -> bool
         ensures { λ r. ⌜ r ≡ waits self ⌝ }
     {
         let transfer = self.transfer;
-        transfer.left == 0
+        (transfer.left == 0) & !self.overdrive
     }
 
     // This is the level that the device sends in a slot.
@@ -264,11 +312,12 @@ impl LineState {
 
     // This is the line state after a slot at a level that is not the last of its transfer.
     pub fn shifted(self, level: bool) -> LineState
-        ensures { λ r. ⌜ r ≡ lineState (shifted (self .transfer) level) ⌝ }
+        ensures { λ r. ⌜ r ≡ lineState (shifted (self .transfer) level) (self .overdrive) ⌝ }
     {
         let transfer = self.transfer;
         LineState {
             transfer: line::shifted(transfer, level),
+            overdrive: self.overdrive,
         }
     }
 
@@ -281,9 +330,11 @@ impl LineState {
         }
         let transfer = self.transfer;
         let stage = transfer.stage;
+        let overdrive = self.overdrive;
         let value = bits::shift_in(transfer.register, level);
         LineState {
-            transfer: stage_next(stage, kind, value, body, level),
+            transfer: stage_next(stage, kind, overdrive, value, body, level),
+            overdrive: stage_speed(stage, kind, overdrive, value, body, level),
         }
     }
 
@@ -295,22 +346,25 @@ impl LineState {
             × (now (body .exit) ≡ bodyAfterSlotAsIs self kind (now (body .entry)) level) ⌝ }
     {
         let transfer = self.transfer;
+        let overdrive = self.overdrive;
         if self.goes_on() {
-            return stepped_to(line::shifted(transfer, level), CopyDone::NoCopy);
+            return stepped_to(line::shifted(transfer, level), overdrive, CopyDone::NoCopy);
         }
         let stage = transfer.stage;
         let value = bits::shift_in(transfer.register, level);
-        stage_end(stage, kind, value, body, level)
+        stage_end(stage, kind, overdrive, value, body, level)
     }
 
-    // A reset changes the body by the stage in which it comes, and leaves the device at the ROM command.
-    pub fn reset_as_is(self, body: &mut [u8]) -> LineState
-        ensures { λ r. ⌜ (r ≡ resetState) × (now (body .exit) ≡ bodyAfterResetAsIs self (now (body .entry))) ⌝ }
+    // A reset changes the body by the stage in which it comes, and leaves the device at the ROM command, at the speed
+    // of the reset.
+    pub fn reset_as_is(self, body: &mut [u8], overdrive: bool) -> LineState
+        ensures { λ r. ⌜ (r ≡ resetAt overdrive)
+            × (now (body .exit) ≡ bodyAfterResetAsIs self (now (body .entry))) ⌝ }
     {
         let transfer = self.transfer;
         let stage = transfer.stage;
         stage_reset(stage, body);
-        LineState::at_reset()
+        LineState::at_reset(overdrive)
     }
 
     // This is the line state after a program pulse.
@@ -321,6 +375,7 @@ impl LineState {
         let stage = transfer.stage;
         LineState {
             transfer: stage_pulse(stage, transfer, body),
+            overdrive: self.overdrive,
         }
     }
 
@@ -345,8 +400,10 @@ impl LineState {
     {
         let transfer = self.transfer;
         let stage = transfer.stage;
+        let overdrive = self.overdrive;
         let sized = body.len() == kind::body_size(kind);
-        sized & stage_in_range(stage, kind, transfer.register, transfer.left)
+        let known = kind::is_speed_known(kind, overdrive);
+        sized & (known & stage_in_range(stage, kind, overdrive, transfer.register, transfer.left))
     }
 
     // A line state that the device cannot be in counts as waiting. The test stands in this one place.
@@ -360,7 +417,7 @@ impl LineState {
         }
     }
 
-    // This is the level that the device sends in a slot.
+    // This is the level that the device sends in a slot that it hears.
     pub fn sends(self, kind: Kind, body: &[u8]) -> bool
         ensures { λ r. ⌜ r ≡ sendsOf self kind (now (body .entry)) ⌝ }
     {
@@ -384,12 +441,14 @@ impl LineState {
         state.slot_as_is(kind, body, level)
     }
 
-    // A reset changes the body by the stage in which it comes, and leaves the device at the ROM command.
-    pub fn reset(self, kind: Kind, body: &mut [u8]) -> LineState
-        ensures { λ r. ⌜ (r ≡ resetState) × (now (body .exit) ≡ bodyAfterReset self kind (now (body .entry))) ⌝ }
+    // A reset that the device hears changes the body by the stage in which it comes, and leaves the device at the ROM
+    // command, at the speed of the reset.
+    pub fn reset(self, kind: Kind, body: &mut [u8], overdrive: bool) -> LineState
+        ensures { λ r. ⌜ (r ≡ resetAt overdrive)
+            × (now (body .exit) ≡ bodyAfterReset self kind (now (body .entry))) ⌝ }
     {
         let state = self.or_waiting(kind, body);
-        state.reset_as_is(body)
+        state.reset_as_is(body, overdrive)
     }
 
     // This is the line state after a program pulse; the body is only read.

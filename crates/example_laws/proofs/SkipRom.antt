@@ -15,13 +15,13 @@ use Rattle.line.specs.Slots.{shiftedOver}
 use Rattle.image.specs.Image.{countOf, kindAt}
 use Rattle.image.specs.Refusal.{imageRefusal}
 use Rattle.image.proofs.Accepted.{accepted-known}
-use Rattle.rom.specs.Rom.{addressed, romCommand}
+use Rattle.rom.specs.Rom.{addressed, romCommand, commandSpeed}
 use Rattle.device.specs.declared.LineState.{LineState}
-use Rattle.device.specs.Device.{lineState, waitingState, resetState}
+use Rattle.device.specs.Device.{regularState, waitingState, resetState}
 use Rattle.device.proofs.Search.{commanded}
 use Rattle.bus.specs.declared.Event.the-variants.{Slot, Reset}
 use Rattle.bus.specs.declared.Event.{Event}
-use Rattle.bus.specs.Bus.{Device, BusStep, eventOf, presenceLevel, levelOf, nextDevice, busStepAt, busStep, Run, withAnswer, runTrace}
+use Rattle.bus.specs.Bus.{Device, BusStep, eventOf, hears, answersLow, pullsLow, someLow, masterHigh, levelOf, nextDevice, busStepAt, busStep, Run, withAnswer, runTrace}
 use Rattle.bus.specs.Bus.{copiedByAll, copiedInTrace}
 use Rattle.bus.specs.Refusal.{someByte, badTrace, noFirstReset, badPulse}
 use Rattle.bus.specs.Run.{waitingDevices, tableOfContents, bodiesOf, statesOf, runResult, runOutcome, leftByRun, runAt, runOf}
@@ -51,7 +51,7 @@ all-states : (image : List ℕ) (i : ℕ) (ds : List Device) → Stand image i d
     → statesOf (allBy addressedState ds) ≡ addressedFrom image i (length ds)
 all-states image i [] s = refl
 all-states image i (d ∷ ds) s =
-    let own : lineState (addressed (d .kind)) ≡ lineState (addressed (kindAt image i)) = ap (λ (k : Kind). lineState (addressed k)) (s .0 .kind) in
+    let own : regularState (addressed (d .kind)) ≡ regularState (addressed (kindAt image i)) = ap (λ (k : Kind). regularState (addressed k)) (s .0 .kind) in
     let rest = all-states image (suc i) ds (s .1) in
     cc
 
@@ -105,7 +105,7 @@ module _ (ds : List Device) (fit : Sized ds) where
 
   -- the eight bits of CCh
   command-run : runTrace (bitsFrom 0) (all resetState ds) ≡ record { answers = bitsFrom 0; devices = allBy addressedState ds }
-  unfolding eventOf romCommand shiftedOver spelled withAnswer levelByte runTrace
+  unfolding eventOf romCommand commandSpeed shiftedOver spelled withAnswer levelByte runTrace
   command-run =
       let three = false ∷ false ∷ true ∷ [] in
       let seven = three ++ true ∷ false ∷ false ∷ true ∷ [] in
@@ -142,7 +142,7 @@ module _ (ds : List Device) (fit : Sized ds) where
       (command-after levels sent (map active ds) h fits) (command-copied levels sent (map active ds))
 
   command-copies : copiedInTrace (bitsFrom 0) (all resetState ds) ≡ 0
-  unfolding eventOf romCommand shiftedOver spelled levelByte copiedInTrace
+  unfolding eventOf romCommand commandSpeed shiftedOver spelled levelByte copiedInTrace
   command-copies =
       let three = false ∷ false ∷ true ∷ [] in
       let seven = three ++ true ∷ false ∷ false ∷ true ∷ [] in
@@ -158,10 +158,10 @@ module _ (ds : List Device) (fit : Sized ds) where
       (command-copied seven true (map active ds))
 
   -- the reset before them, of devices that wait
-  reset-run : (trace : List ℕ) → runTrace (2 ∷ trace) (all waitingState ds) ≡ withAnswer (presenceLevel (all waitingState ds)) (runTrace trace (all resetState ds))
-  unfolding runTrace eventOf busStep busStepAt levelOf
+  reset-run : (trace : List ℕ) → runTrace (2 ∷ trace) (all waitingState ds) ≡ withAnswer (levelOf Reset (all waitingState ds)) (runTrace trace (all resetState ds))
+  unfolding runTrace eventOf busStep busStepAt
   reset-run trace =
-      let level = presenceLevel (all waitingState ds) in
+      let level = levelOf Reset (all waitingState ds) in
       let after : map (nextDevice Reset level) (all waitingState ds) ≡ all resetState ds =
       ap (map (nextDevice Reset level)) (sym (all-stands (λ kind body. waitingState) ds))
       ∙ reset-all (λ kind body. waitingState) level (map active ds) waiting-unwritten
@@ -170,9 +170,9 @@ module _ (ds : List Device) (fit : Sized ds) where
       ap (λ (es : List Device). withAnswer level (runTrace trace es)) after
 
   skip-copies : copiedInTrace skipRom (all waitingState ds) ≡ 0
-  unfolding copiedInTrace eventOf busStep busStepAt levelOf
+  unfolding copiedInTrace eventOf busStep busStepAt
   skip-copies =
-      let level = presenceLevel (all waitingState ds) in
+      let level = levelOf Reset (all waitingState ds) in
       let after : map (nextDevice Reset level) (all waitingState ds) ≡ all resetState ds =
       ap (map (nextDevice Reset level)) (sym (all-stands (λ kind body. waitingState) ds))
       ∙ reset-all (λ kind body. waitingState) level (map active ds) waiting-unwritten
@@ -182,13 +182,13 @@ module _ (ds : List Device) (fit : Sized ds) where
       ∙ omega (arith, reset-copied level (all waitingState ds), command-copies)
 
   skip-run : runTrace skipRom (all waitingState ds)
-      ≡ record { answers = skipAnswers (levelByte (presenceLevel (all waitingState ds))); devices = allBy addressedState ds }
+      ≡ record { answers = skipAnswers (levelByte (levelOf Reset (all waitingState ds))); devices = allBy addressedState ds }
   unfolding withAnswer
-  skip-run = reset-run (bitsFrom 0) ∙ ap (withAnswer (presenceLevel (all waitingState ds))) command-run
+  skip-run = reset-run (bitsFrom 0) ∙ ap (withAnswer (levelOf Reset (all waitingState ds))) command-run
 
 -- presence by the count
-presence-is : (image : List ℕ) (s : LineState) (ds : List Device) → length ds ≡ countOf image → levelByte (presenceLevel (all s ds)) ≡ presenceOf image
-unfolding presenceLevel levelByte
+presence-is : (image : List ℕ) (s : LineState) (ds : List Device) → length ds ≡ countOf image → levelByte (levelOf Reset (all s ds)) ≡ presenceOf image
+unfolding levelOf masterHigh someLow pullsLow hears answersLow levelByte
 presence-is image s [] e = rw (sym e)
 presence-is image s (d ∷ ds) e = rw (ne-eqb (countOf image) 0 (λ (z : countOf image ≡ 0). omega arith))
 
@@ -210,7 +210,7 @@ skip-rom image answers lines accepted room lent =
       answers-room = room;
       lines-room = lent;
     }) in
-    let begun : runTrace skipRom ds ≡ record { answers = skipAnswers (levelByte (presenceLevel (all waitingState ds))); devices = allBy addressedState ds } =
+    let begun : runTrace skipRom ds ≡ record { answers = skipAnswers (levelByte (levelOf Reset (all waitingState ds))); devices = allBy addressedState ds } =
     ap (runTrace skipRom) (all-same waitingState n ds (waiting-states image known)) ∙ skip-run ds (sized image 0 ds (waiting-stands image known)) in
     let none : copiedInTrace skipRom ds ≡ 0 =
     ap (copiedInTrace skipRom) (all-same waitingState n ds (waiting-states image known)) ∙ skip-copies ds (sized image 0 ds (waiting-stands image known)) in

@@ -10,7 +10,7 @@ use Rattle.image.specs.Image.{countOf, kindAt}
 use Rattle.image.specs.Refusal.{imageRefusal}
 use Rattle.rom.specs.Rom.{addressed}
 use Rattle.device.specs.declared.LineState.{LineState}
-use Rattle.device.specs.Device.{lineState, waitingState}
+use Rattle.device.specs.Device.{regularState, waitingState}
 use Rattle.bus.specs.Run.{runResult, runOutcome, runOf}
 use Rattle.example_laws.specs.Row.{Every}
 use Rattle.example_laws.specs.Table.{skipRom, skipAnswers, table}
@@ -22,7 +22,7 @@ presenceOf image = cond (eqb (countOf image) 0) 1 0
 -- Each of n devices from entry i on is addressed.
 abbrev pub addressedFrom : List ℕ → ℕ → ℕ → List LineState
 addressedFrom image i zero = []
-addressedFrom image i (suc n) = lineState (addressed (kindAt image i)) ∷ addressedFrom image (suc i) n
+addressedFrom image i (suc n) = regularState (addressed (kindAt image i)) ∷ addressedFrom image (suc i) n
 
 pub record Examples : Type 0 where
   pub rows : Every table

@@ -1,5 +1,6 @@
 pub mod Session
 pub mod Images
 pub mod Row
+pub mod Overdrive
 pub mod Table
 pub mod Examples

@@ -9,7 +9,7 @@ use Rattle.line.specs.Transfers.{atRomCommand, atMemoryCommand}
 use Rattle.image.specs.Image.{countOf}
 use Rattle.image.specs.Refusal.{imageRefusal}
 use Rattle.device.specs.declared.LineState.{LineState}
-use Rattle.device.specs.Device.{lineState}
+use Rattle.device.specs.Device.{regularState}
 use Rattle.bus.specs.Run.{runResult, runOutcome, runOf}
 use Rattle.master.specs.Master.{end, masterAnswer}
 use Rattle.search_laws.specs.Search.{searchOf}
@@ -40,14 +40,14 @@ abbrev pub lentAnswers : List ℕ → List ℕ
 lentAnswers sent = replicate (length sent) 7
 
 abbrev pub lentLines : List ℕ → List LineState
-lentLines image = replicate (countOf image) (lineState atMemoryCommand)
+lentLines image = replicate (countOf image) (regularState atMemoryCommand)
 
 -- The run is not refused, copies so many bytes, and leaves this image, these answers, and every line state in this
--- transfer.
+-- transfer, at regular speed.
 abbrev pub Runs : List ℕ → List ℕ → List ℕ → List ℕ → Transfer → ℕ → Type 0
 Runs image sent seen after transfer copied =
     runOf image sent (lentAnswers sent) (lentLines image)
-    ≡ runOutcome (runResult 0 copied) after seen (replicate (countOf image) (lineState transfer))
+    ≡ runOutcome (runResult 0 copied) after seen (replicate (countOf image) (regularState transfer))
 
 -- The run is refused with this number, copies nothing, and nothing of what was lent changes.
 abbrev pub Refuses : List ℕ → List ℕ → ℕ → Type 0

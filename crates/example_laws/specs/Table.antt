@@ -1,5 +1,5 @@
--- Document 01, 'Shop-floor examples' and 'Slips seen in other models', and document 02, items 3, 4, 6 and 7, are stated
--- here as one table.
+-- Document 01, 'Shop-floor examples' and 'Slips seen in other models', and document 02, items 3, 4, 6, 7 and 9, are
+-- stated here as one table; the rows of item 9 are in `Overdrive.antt`.
 use Prim.Native.Nat.{ℕ}
 use mathlib.Core.List.{List, [], _∷_, _++_}
 use lib.ListN.{replicate}
@@ -9,7 +9,8 @@ use Rattle.example_laws.specs.Session.{eventsOfSteps, skip, select}
 use Rattle.example_laws.specs.Images.{ds1992Code, secondCode, ds1993Code, ds1982Code, zeros, ones, counting}
 use Rattle.example_laws.specs.Images.{sramBody, epromBody, noDevice, ds1992, ds1993, ds1982, blankDs1992}
 use Rattle.example_laws.specs.Images.{blankDs1993, blankDs1982, oneOfEach, twoDs1992, ds1992AndDs1982, placed}
-use Rattle.example_laws.specs.Images.{oneFlat, flatAndGood, flatDs1993AndDs1992}
+use Rattle.example_laws.specs.Images.{oneFlat, flatAndGood, flatDs1993AndDs1992, twoBytes}
+use Rattle.example_laws.specs.Overdrive.{overdriveRows}
 use Rattle.example_laws.specs.Row.{Row, run, refused, search, copying, session}
 
 -- ---- 1: reset, CCh
@@ -43,10 +44,6 @@ readScratchpadSteps bytes = skip (0xAA ∷ []) ++ read bytes ∷ []
 -- A copy sends a pattern, and reads one byte after it.
 abbrev pub copy : List ℕ → ℕ → List SessionStep
 copy pattern byte = skip (0x55 ∷ pattern) ++ read (byte ∷ []) ∷ []
-
--- The scratchpad has A1h and A2h at offset 6.
-abbrev pub twoBytes : List ℕ
-twoBytes = placed 6 (0xA1 ∷ 0xA2 ∷ []) (zeros 32)
 
 -- A DS1992 was written to for the target 0026h and has this E/S; nothing is copied yet.
 abbrev pub written : ℕ → List ℕ
@@ -324,9 +321,9 @@ begunBeforeAReset =
     -- It is refused with no device too, and so is a pulse that comes first where every device is a DS1982.
     ∷ refused noDevice begunInARead 11
     ∷ refused blankDs1982 (3 ∷ skipRom) 11
-    -- Cause 11 comes before 6, a pulse on a device that is no DS1982, and after 5, a byte over 3.
+    -- Cause 11 comes before 6, a pulse on a device that is no DS1982, and after 5, a byte over 6.
     ∷ refused blankDs1992 (3 ∷ skipRom) 11
-    ∷ refused blankDs1992 (4 ∷ skipRom) 5
+    ∷ refused blankDs1992 (7 ∷ skipRom) 5
     -- After a reset the pulse on a DS1992 is a 6.
     ∷ refused blankDs1992 (2 ∷ 3 ∷ []) 6
     ∷ []
@@ -370,4 +367,4 @@ table =
     example1 ++ example2 ++ example3 ++ example4 ++ example5 ++ example6 ++ example7 ++ example8 ++ example9
     ++ example10 ++ example11
     ++ cutAddressRows ++ listener ++ readLoadsTarget ++ oneCopy ++ copyRows ++ reads ++ writes ++ begunBeforeAReset
-    ++ flatRows
+    ++ flatRows ++ overdriveRows

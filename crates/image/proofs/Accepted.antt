@@ -16,7 +16,7 @@ use Rattle.kind.specs.declared.Kind.the-variants.{Sram, Eprom, Unknown}
 use Rattle.kind.specs.Kind.{bodySize, codeLength, isUnknown}
 use Rattle.image.specs.Image.{countOf, editionOf, familyAt, secondAt, offsetAt, kindAt, packedAt, bodyAt, codeAt}
 use Rattle.image.specs.Refusal.{someBelow, equalBytes, firstCause, editionKnown, batteryMalformed}
-use Rattle.image.specs.Refusal.{entryMalformed, imageMalformed, bodyMisplaced, codeRefused, someCodeRefused, codeRepeated, someCodeRepeated, imageCauses, imageRefusal}
+use Rattle.image.specs.Refusal.{entryMalformed, imageMalformed, imageTooLong, bodyMisplaced, codeRefused, someCodeRefused, codeRepeated, someCodeRepeated, imageCauses, imageRefusal}
 
 -- ---- tests
 
@@ -51,14 +51,15 @@ unfolding someBelow
 none-some p zero f = refl
 none-some p (suc n) f = rw (none-some p n (λ i h. f i (omega arith))) (f n (omega arith))
 
--- of four causes none applies
-clear : (a b c d : Bool) → _≡_ {A = ℕ} (cond a 1 (cond b 2 (cond c 3 (cond d 4 0)))) 0
-    → (a ≡ false) × (b ≡ false) × (c ≡ false) × (d ≡ false)
-clear true b c d e = absurd (omega arith)
-clear false true c d e = absurd (omega arith)
-clear false false true d e = absurd (omega arith)
-clear false false false true e = absurd (omega arith)
-clear false false false false e = (refl, refl, refl, refl)
+-- of five causes none applies
+clear : (a l b c d : Bool) → _≡_ {A = ℕ} (cond a 1 (cond l 2 (cond b 2 (cond c 3 (cond d 4 0))))) 0
+    → (a ≡ false) × (b ≡ false) × (c ≡ false) × (d ≡ false) × (l ≡ false)
+clear true l b c d e = absurd (omega arith)
+clear false true b c d e = absurd (omega arith)
+clear false false true c d e = absurd (omega arith)
+clear false false false true d e = absurd (omega arith)
+clear false false false false true e = absurd (omega arith)
+clear false false false false false e = (refl, refl, refl, refl, refl)
 
 -- two codes whose first 8 bytes are equal are equal
 equal-bytes : (n : ℕ) (xs ys : List ℕ) → length xs ≡ n → length ys ≡ n → equalBytes n xs ys ≡ true → xs ≡ ys
@@ -81,6 +82,7 @@ pub record Known (image : List ℕ) : Type 0 where
   pub battery : (i : ℕ) → i < countOf image → batteryMalformed (editionOf image) (secondAt image i) (kindAt image i) ≡ false
   pub kind : (i : ℕ) → i < countOf image → isUnknown (kindAt image i) ≡ false
   pub placed : (i : ℕ) → i < countOf image → offsetAt image i ≡ packedAt image i
+  pub short : length image ≤ 65535
   pub whole : length image ≡ packedAt image (countOf image)
   pub code : (i : ℕ) → i < countOf image → registrationCheck (codeAt image i) ≡ true
   pub family : (i : ℕ) → i < countOf image → getD (codeAt image i) 0 0 ≡ familyAt image i
@@ -88,10 +90,10 @@ pub record Known (image : List ℕ) : Type 0 where
 
 -- what is not refused
 pub accepted-known : (image : List ℕ) → imageRefusal image ≡ 0 → Known image
-unfolding imageRefusal imageCauses firstCause imageMalformed entryMalformed bodyMisplaced someCodeRefused codeRefused someCodeRepeated codeRepeated
+unfolding imageRefusal imageCauses firstCause imageMalformed entryMalformed imageTooLong bodyMisplaced someCodeRefused codeRefused someCodeRepeated codeRepeated
 accepted-known image e =
     let n = countOf image in
-    let none = clear (imageMalformed image) (bodyMisplaced image) (someCodeRefused image) (someCodeRepeated image) e in
+    let none = clear (imageMalformed image) (imageTooLong image) (bodyMisplaced image) (someCodeRefused image) (someCodeRepeated image) e in
     let one = or-false (ltb (length image) (2 + 4 * n) || ltb 64 n || not (editionKnown (editionOf image))) (someBelow n (λ i. entryMalformed image i)) (none .0) in
     let two = or-false (ltb (length image) (2 + 4 * n) || ltb 64 n) (not (editionKnown (editionOf image))) (one .0) in
     let three = or-false (ltb (length image) (2 + 4 * n)) (ltb 64 n) (two .0) in
@@ -108,6 +110,7 @@ accepted-known image e =
       battery = λ i h. entry i h .0;
       kind = λ i h. entry i h .1;
       placed = λ i h. eqb-true _ _ (not-false _ (some-none (λ i. not (eqb (offsetAt image i) (packedAt image i))) n i (place .0) h));
+      short = ltb-false 65535 (length image) (none .4);
       whole = eqb-true _ _ (not-false _ (place .1));
       code = λ i h. not-false _ (code i h .0);
       family = λ i h. eqb-true _ _ (not-false _ (code i h .1));
@@ -123,6 +126,10 @@ well-formed image k =
     let entries : someBelow n (λ i. entryMalformed image i) ≡ false =
     none-some (λ i. entryMalformed image i) n (λ i h. rw (k .battery i h) (k .kind i h)) in
     simp (long, few, k .edition) entries
+
+short-enough : (image : List ℕ) → Known image → imageTooLong image ≡ false
+unfolding imageTooLong
+short-enough image k = le-ltb 65535 (length image) (k .short)
 
 well-placed : (image : List ℕ) → Known image → bodyMisplaced image ≡ false
 unfolding bodyMisplaced
@@ -152,7 +159,7 @@ all-distinct image k =
 -- and back: of what is so known nothing is refused
 pub known-accepted : (image : List ℕ) → Known image → imageRefusal image ≡ 0
 unfolding imageRefusal imageCauses firstCause
-known-accepted image k = rw (well-formed image k, well-placed image k, well-coded image k, all-distinct image k)
+known-accepted image k = rw (well-formed image k, short-enough image k, well-placed image k, well-coded image k, all-distinct image k)
 
 -- ---- bodies
 

@@ -40,19 +40,21 @@ some-more p i h e = rw (add-one, h) e
 
 -- ---- the packed layout
 
--- no body is longer than a DS1993's
-kind-bound : (a b c flat : Bool) → bodySize (cond a (Sram 128 flat) (cond b (Sram 512 flat) (cond c Eprom Unknown))) ≤ 555
+-- no body is longer than a DS1996's
+kind-bound : (a b c d flat : Bool)
+    → bodySize (cond a (Sram 128 flat) (cond b (Sram 512 flat) (cond c (Sram 8192 flat) (cond d Eprom Unknown)))) ≤ 8235
 unfolding bodySize
-kind-bound true b c flat = omega arith
-kind-bound false true c flat = omega arith
-kind-bound false false true flat = omega arith
-kind-bound false false false flat = omega arith
+kind-bound true b c d flat = omega arith
+kind-bound false true c d flat = omega arith
+kind-bound false false true d flat = omega arith
+kind-bound false false false true flat = omega arith
+kind-bound false false false false flat = omega arith
 
-pub size-bound : (family : ℕ) (flat : Bool) → bodySize (kindOf family flat) ≤ 555
+pub size-bound : (family : ℕ) (flat : Bool) → bodySize (kindOf family flat) ≤ 8235
 unfolding kindOf
-size-bound family flat = kind-bound (eqb family 0x08) (eqb family 0x06) (eqb family 0x09) flat
+size-bound family flat = kind-bound (eqb family 0x08) (eqb family 0x06) (eqb family 0x0C) (eqb family 0x09) flat
 
-pub packed-bound : (image : List ℕ) (i : ℕ) → packedAt image i ≤ 2 + 4 * countOf image + 555 * i
+pub packed-bound : (image : List ℕ) (i : ℕ) → packedAt image i ≤ 2 + 4 * countOf image + 8235 * i
 unfolding packedAt
 packed-bound image zero = omega arith
 packed-bound image (suc i) = omega (arith, packed-bound image i, size-bound (familyAt image i) (flatAt image i))

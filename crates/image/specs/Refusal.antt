@@ -1,5 +1,5 @@
--- Document 01, 'Refusals in order', and document 02, item 7, are stated here: the causes 1 to 4, each over the whole
--- image.
+-- Document 01, 'Refusals in order', and document 02, items 7 and 9, are stated here: the causes 1 to 4, each over the
+-- whole image.
 use Prim.Native.Nat.{ℕ, zero, suc, _+_, _*_}
 use mathlib.Core.Bool.{Bool, true, false, not, cond, _&&_, _||_}
 use mathlib.Core.List.{List, [], _∷_}
@@ -54,7 +54,11 @@ imageMalformed image =
     || not (editionKnown (editionOf image))
     || someBelow (countOf image) (λ i. entryMalformed image i)
 
--- Cause 2 is an offset that differs from the packed layout, or an image length that does.
+-- Cause 2 is an image of over 65,535 bytes (document 02, item 9).
+unfoldable pub imageTooLong : List ℕ → Bool
+imageTooLong image = ltb 65535 (length image)
+
+-- Cause 2 is also an offset that differs from the packed layout, or an image length that does.
 unfoldable pub bodyMisplaced : List ℕ → Bool
 bodyMisplaced image =
     someBelow (countOf image) (λ i. not (eqb (offsetAt image i) (packedAt image i)))
@@ -79,6 +83,7 @@ someCodeRepeated image = someBelow (countOf image) (λ j. codeRepeated image j)
 unfoldable pub imageCauses : List ℕ → List Cause
 imageCauses image =
     cause 1 (imageMalformed image)
+    ∷ cause 2 (imageTooLong image)
     ∷ cause 2 (bodyMisplaced image)
     ∷ cause 3 (someCodeRefused image)
     ∷ cause 4 (someCodeRepeated image)

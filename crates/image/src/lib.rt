@@ -7,7 +7,7 @@ ghost use Rattle.kind.specs.Kind.{bodySize};
 ghost use Rattle.image.specs.Image.{countOf, editionOf, familyAt, secondAt, offsetAt, flatAt, kindAt, codeAt};
 ghost use Rattle.image.specs.Image.{entryOf};
 ghost use Rattle.image.specs.Refusal.{someBelow, equalBytes, editionKnown, batteryMalformed, entryMalformed};
-ghost use Rattle.image.specs.Refusal.{imageMalformed, bodyMisplaced};
+ghost use Rattle.image.specs.Refusal.{imageMalformed, imageTooLong, bodyMisplaced};
 ghost use Rattle.image.specs.Refusal.{codeRefused, someCodeRefused, codeRepeated, someCodeRepeated, imageRefusal};
 
 // An entry names its device's kind, with the state of its battery, and where the body starts in the image.
@@ -18,6 +18,9 @@ pub struct Entry {
 
 // The number 0 means that nothing is refused.
 pub const ACCEPTED: u32 = 0;
+
+// An image of more bytes than this is refused.
+const MOST_BYTES: usize = 65535;
 
 // Byte 0 of an image is the number of its devices.
 pub fn count(image: &[u8]) -> u8
@@ -136,7 +139,14 @@ fn is_malformed(image: &[u8]) -> bool
     true
 }
 
-// Cause 2 is a body that is not at its packed place, or an image of another length than the packed bodies have.
+// Cause 2 is an image that is too long.
+fn is_too_long(image: &[u8]) -> bool
+    ensures { λ r. ⌜ r ≡ imageTooLong (now (image .entry)) ⌝ }
+{
+    MOST_BYTES < image.len()
+}
+
+// Cause 2 is also a body that is not at its packed place, or an image of another length than the packed bodies have.
 fn is_misplaced(image: &[u8]) -> bool
     ensures { λ r. ⌜ r ≡ bodyMisplaced (now (image .entry)) ⌝ }
 {
@@ -232,6 +242,9 @@ pub fn refusal(image: &[u8]) -> u32
 {
     if is_malformed(image) {
         return 1;
+    }
+    if is_too_long(image) {
+        return 2;
     }
     if is_misplaced(image) {
         return 2;

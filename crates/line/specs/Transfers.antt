@@ -12,9 +12,11 @@
 --   Read byte                     the byte of the code that is sent, below 8; up to 8 slots
 --   Match at                      the bit of the code that is compared, below 64; 1 slot
 --   Search at                     the bit of the code that is searched, below 64; up to 3 slots
+--   OverdriveMatch at before      the bit of the code that is compared at overdrive, below 64; whether the device was
+--                                 at overdrive before the command; 1 slot
 -- Memory stage, any kind, where the battery is not flat
 --   Command                       as in the ROM stage
--- Memory stage, DS1992 and DS1993; up to 8 slots unless another number is named
+-- Memory stage, DS1992, DS1993 and DS1996; up to 8 slots unless another number is named
 --   WriteLow                      no number
 --   WriteHigh low                 the low byte of the address
 --   WriteData offset bit          the place of the next data bit: offset below 32 and bit below 8, or offset 32 and

@@ -21,9 +21,12 @@ pub enum RomStage {
     Match { at: u8 },
     // The device sends bit `at` of the code, then its complement, and receives the direction, in three slots.
     Search { at: u8 },
+    // The device receives bit `at` of the code at overdrive speed, in one slot; `before` tells whether it was at
+    // overdrive before the command, as a mismatch leaves it at the speed that it had then.
+    OverdriveMatch { at: u8, before: bool },
 }
 
-// These are the memory functions of a DS1992 or DS1993.
+// These are the memory functions of a DS1992, DS1993 or DS1996.
 pub enum SramStage {
     // Write scratchpad receives the address, low byte first, then each data bit in a slot of its own. `offset` and
     // `bit` are the place in the scratchpad of the bit that comes next; `offset` is 32 when offset 31 is complete.

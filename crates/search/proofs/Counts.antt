@@ -47,4 +47,4 @@ passes-end t i h = none-in (drop i t) (let d = length-drop i t in omega arith)
 -- of an image that is not refused
 pub room-decides : (image : List ℕ) (codes trace lines : ℕ) → imageRefusal image ≡ 0 → searchRefusal image codes trace lines ≡ cond (noSearchRoom image codes trace lines) 7 0
 unfolding searchRefusal searchCauses imageCauses imageRefusal firstCause
-room-decides image codes trace lines h = first-none (imageCauses image) (cause 7 (noSearchRoom image codes trace lines) ∷ []) (lit< tt, (lit< tt, (lit< tt, (lit< tt, tt)))) h
+room-decides image codes trace lines h = first-none (imageCauses image) (cause 7 (noSearchRoom image codes trace lines) ∷ []) (lit< tt, (lit< tt, (lit< tt, (lit< tt, (lit< tt, tt))))) h

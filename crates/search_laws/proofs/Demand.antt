@@ -14,7 +14,7 @@ use Rattle.image.proofs.Accepted.{Known, accepted-known}
 use Rattle.line.specs.declared.RomStage.the-variants.{Waiting}
 use Rattle.device.specs.declared.LineState.{LineState}
 use Rattle.device.specs.Device.{waitingState}
-use Rattle.bus.specs.Bus.{Device, eventOf, presenceLevel, levelOf, runTrace, copiedByAll, copiedInTrace}
+use Rattle.bus.specs.Bus.{Device, eventOf, someLow, masterHigh, levelOf, runTrace, copiedByAll, copiedInTrace}
 use Rattle.bus.specs.Refusal.{someByte, badTrace, noFirstReset, badPulse, runRefusal}
 use Rattle.bus.specs.Run.{waitingDevices, tableOfContents, bodiesOf, statesOf, runResult, runOutcome, leftByRun, runAt, runOf}
 use Rattle.bus.proofs.Laws.{not-refused}
@@ -140,7 +140,7 @@ no-length (x ∷ xs) e = absurd (omega arith)
 
 -- no device: no presence on the first reset
 drives-none : (image : List ℕ) → waitingDevices image ≡ [] → Drives image (resetEvent ∷ []) []
-unfolding masterAfterLevel masterInRange stageInRange stepByStage masterAfterReset freshMaster masterAtStage answerValue answerIn endNumber eventOf levelOf presenceLevel codeCompleted copiedByAll
+unfolding masterAfterLevel masterInRange stageInRange stepByStage masterAfterReset freshMaster masterAtStage answerValue answerIn endNumber eventOf levelOf masterHigh someLow codeCompleted copiedByAll
 drives-none image e = record {
   master = masterOf (Ended Done) 0 noBits None noBits None;
   devices = [];
@@ -179,7 +179,7 @@ run-admitted image {trace} answers lines ok w room lent =
     let short = w .short in
     not-refused image trace answers lines (record {
       image-accepted = ok;
-      trace-good = rw (le-ltb 32768 (length trace) (omega arith)) (w .low (λ byte. ltb 3 byte) refl refl refl);
+      trace-good = rw (le-ltb 32768 (length trace) (omega arith)) (w .low (λ byte. ltb 6 byte) refl refl refl);
       reset-first = w .begins;
       pulses-good = rw (w .low (λ byte. eqb byte 3) refl refl refl);
       answers-room = room;

@@ -18,14 +18,14 @@ use Rattle.line.specs.declared.Transfer.{Transfer}
 use Rattle.line.specs.Transfers.{waiting}
 use Rattle.line.specs.Slots.{shiftedOver}
 use Rattle.bits.specs.Levels.{spelled}
-use Rattle.rom.specs.Rom.{searchBit, addressed, romCommand, afterSearch}
+use Rattle.rom.specs.Rom.{searchBit, addressed, romCommand, commandSpeed, afterSearch}
 use Rattle.device.specs.declared.LineState.{LineState}
-use Rattle.device.specs.Device.{lineState, waitingState, resetState, sendsOf, stateAfterSlot, bodyAfterReset}
+use Rattle.device.specs.Device.{lineState, regularState, waitingState, resetState, lineStateInRange, orWaiting, sendsOf, stateAfterSlot, bodyAfterReset}
 use Rattle.device.proofs.Laws.{waiting-sends, waiting-step, waiting-copies, rom-write, rom-copies, rom-reset, addressed-reset}
 use Rattle.device.proofs.Search.{searching, search-sends-bit, search-after-bit, search-sends-complement, search-after-complement, search-sends-direction, search-after-direction, commanded, command-sends, command-goes-on, command-ends}
 use Rattle.bus.specs.declared.Event.the-variants.{Slot, Reset}
-use Rattle.bus.specs.Bus.{Device, deviceWith, pullsLow, someLow, levelOf, nextState, nextBody, nextDevice}
-use Rattle.bus.specs.Bus.{copiedIn, copiedByAll}
+use Rattle.bus.specs.Bus.{Device, deviceWith, takenState, hears, answersLow, pullsLow, someLow, masterHigh, levelOf, heardState, heardBody, nextState, nextBody, nextDevice}
+use Rattle.bus.specs.Bus.{heardCopied, copiedIn, copiedByAll}
 use Rattle.search_laws.proofs.Codes.{Code, branch}
 use Rattle.search_laws.proofs.Bits.{bitsFrom}
 use Rattle.search_laws.proofs.Passes.{bits-level, complements-level}
@@ -70,18 +70,29 @@ rests k m (inactive d ∷ ms) = rests k m ms
 
 -- ---- a slot
 
--- a line state in a ROM stage
+-- a line state in a ROM stage, at regular speed
 abbrev InRom : LineState → Type 0
-InRom s = (r : RomStage) × (s .transfer .stage ≡ Rom r)
+InRom s = (r : RomStage) × (s .transfer .stage ≡ Rom r) × (s .overdrive ≡ false)
+
+-- a device at regular speed hears a regular slot
+regular-hears : (s : LineState) (sent : Bool) (d : Device) → s .overdrive ≡ false
+    → hears (Slot sent) (takenState (inState s d)) ≡ true
+unfolding hears takenState orWaiting
+regular-hears s sent d e = choose (lineStateInRange s (d .kind) (d .body))
+  where
+    choose : (t : Bool) → not (cond t s waitingState .overdrive) ≡ true
+    choose true = ap not e
+    choose false = refl
 
 -- there only the line state changes
 slot-next : (s t : LineState) (sent level : Bool) (d : Device) → InRom s → stateAfterSlot s (d .kind) (d .body) level ≡ t
     → nextDevice (Slot sent) level (inState s d) ≡ inState t d
-unfolding nextDevice nextState nextBody
-slot-next s t sent level d r e = rw (rom-write s (r .0) (r .1) (d .kind) (d .body) level, e)
+unfolding nextDevice nextState nextBody heardState heardBody
+slot-next s t sent level d r e =
+    rw (regular-hears s sent d (r .2), rom-write s (r .0) (r .1) (d .kind) (d .body) level, e)
 
 waits-on : (sent level : Bool) (d : Device) → nextDevice (Slot sent) level (inState waitingState d) ≡ inState waitingState d
-waits-on sent level d = slot-next waitingState waitingState sent level d (Waiting, refl) (waiting-step (d .kind) (d .body) level)
+waits-on sent level d = slot-next waitingState waitingState sent level d (Waiting, refl, refl) (waiting-step (d .kind) (d .body) level)
 
 -- a slot that takes every device that takes part from one line state to another
 slot-all : (s t : Kind → List ℕ → LineState) (sent level : Bool) (ms : List Member) → ((kind : Kind) (body : List ℕ) → InRom (s kind body))
@@ -98,37 +109,38 @@ slot-all s t sent level (inactive d ∷ ms) r f z =
     cc
 
 -- in such a slot no byte is copied
+one-copied : (s : LineState) (sent level : Bool) (d : Device) → InRom s → copiedIn (Slot sent) level (inState s d) ≡ 0
+unfolding copiedIn heardCopied
+one-copied s sent level d r =
+    rw (regular-hears s sent d (r .2)) (rom-copies s (r .0) (r .1) (d .kind) (d .body) level)
+
 rom-copied : (s : Kind → List ℕ → LineState) (sent level : Bool) (ms : List Member) → ((kind : Kind) (body : List ℕ) → InRom (s kind body))
     → copiedByAll (Slot sent) level (standsBy s ms) ≡ 0
-unfolding copiedByAll copiedIn
+unfolding copiedByAll
 rom-copied s sent level [] r = refl
 rom-copied s sent level (active d ∷ ms) r =
-    let in-rom = r (d .kind) (d .body) in
-    omega (
-      arith,
-      rom-copies (s (d .kind) (d .body)) (in-rom .0) (in-rom .1) (d .kind) (d .body) level,
-      rom-copied s sent level ms r,
-    )
+    omega (arith, one-copied (s (d .kind) (d .body)) sent level d (r (d .kind) (d .body)), rom-copied s sent level ms r)
 rom-copied s sent level (inactive d ∷ ms) r =
-    omega (arith, waiting-copies (d .kind) (d .body) level, rom-copied s sent level ms r)
+    omega (arith, one-copied waitingState sent level d (Waiting, refl, refl), rom-copied s sent level ms r)
 
 -- nor by a reset
 pub reset-copied : (level : Bool) (ds : List Device) → copiedByAll Reset level ds ≡ 0
-unfolding copiedByAll copiedIn
+unfolding copiedByAll copiedIn heardCopied hears
 reset-copied level [] = refl
 reset-copied level (d ∷ ds) = omega (arith, reset-copied level ds)
 
 -- the level, where no device that takes part sends a 0
-or-false : (a b : Bool) → a ≡ true → b ≡ false → (not a || b) ≡ false
-or-false a b p q = rw (p, q)
+or-false : (heard a b : Bool) → a ≡ true → b ≡ false → (heard && not a || b) ≡ false
+or-false true a b p q = rw (p, q)
+or-false false a b p q = q
 
-none-low : (s : Kind → List ℕ → LineState) (ms : List Member)
+none-low : (s : Kind → List ℕ → LineState) (sent : Bool) (ms : List Member)
     → ((d : Device) → length (d .body) ≡ bodySize (d .kind) → sendsOf (s (d .kind) (d .body)) (d .kind) (d .body) ≡ true) → Sized (map device ms)
-    → someLow (standsBy s ms) ≡ false
-unfolding someLow pullsLow
-none-low s [] f z = refl
-none-low s (active d ∷ ms) f z = or-false _ _ (f d (z .0)) (none-low s ms f (z .1))
-none-low s (inactive d ∷ ms) f z = or-false _ _ (waiting-sends (d .kind) (d .body)) (none-low s ms f (z .1))
+    → someLow (Slot sent) (standsBy s ms) ≡ false
+unfolding someLow pullsLow answersLow
+none-low s sent [] f z = refl
+none-low s sent (active d ∷ ms) f z = or-false (hears (Slot sent) (takenState (inState (s (d .kind) (d .body)) d))) _ _ (f d (z .0)) (none-low s sent ms f (z .1))
+none-low s sent (inactive d ∷ ms) f z = or-false (hears (Slot sent) (takenState (inState waitingState d))) _ _ (waiting-sends (d .kind) (d .body)) (none-low s sent ms f (z .1))
 
 sent-alone : (sent : Bool) → not (not sent || false) ≡ sent
 sent-alone true = refl
@@ -137,8 +149,8 @@ sent-alone false = refl
 slot-level : (s : Kind → List ℕ → LineState) (sent : Bool) (ms : List Member)
     → ((d : Device) → length (d .body) ≡ bodySize (d .kind) → sendsOf (s (d .kind) (d .body)) (d .kind) (d .body) ≡ true) → Sized (map device ms)
     → levelOf (Slot sent) (standsBy s ms) ≡ sent
-unfolding levelOf
-slot-level s sent ms f z = rw (none-low s ms f z) (sent-alone sent)
+unfolding levelOf masterHigh
+slot-level s sent ms f z = rw (none-low s sent ms f z) (sent-alone sent)
 
 -- ---- a bit
 
@@ -152,43 +164,43 @@ searches k levels kind body = searching k body levels
 
 -- the two read slots, the second after a first at level a; then the direction, after reads at levels a and b
 module _ (k m : ℕ) (low : k < 64) where
-  bits-low : (ms : List Member) → Sized (map device ms) → not (someLow (standsBy (searches k []) ms)) ≡ bits-level (rests k (suc m) ms)
-  unfolding someLow pullsLow
+  bit-in-rom : (kind : Kind) (body : List ℕ) → InRom (searches k [] kind body)
+  unfolding shiftedOver searchBit
+  bit-in-rom kind body = (Search k, refl, refl)
+
+  complement-in-rom : (a : Bool) (kind : Kind) (body : List ℕ) → InRom (searches k (a ∷ []) kind body)
+  unfolding shiftedOver searchBit
+  complement-in-rom a kind body = (Search k, refl, refl)
+
+  pub direction-in-rom : (a b : Bool) (kind : Kind) (body : List ℕ) → InRom (searches k (a ∷ b ∷ []) kind body)
+  unfolding shiftedOver searchBit
+  direction-in-rom a b kind body = (Search k, refl, refl)
+
+  bits-low : (ms : List Member) → Sized (map device ms) → not (someLow (Slot true) (standsBy (searches k []) ms)) ≡ bits-level (rests k (suc m) ms)
+  unfolding someLow pullsLow answersLow
   bits-low [] z = refl
   bits-low (active d ∷ ms) z =
-      rw (search-sends-bit k (d .kind) (d .body) (z .0) low)
-      (not-or (bitAt (d .body) k) (someLow (standsBy (searches k []) ms)) (bits-level (rests k (suc m) ms)) (bits-low ms (z .1)))
-  bits-low (inactive d ∷ ms) z = rw (waiting-sends (d .kind) (d .body)) (bits-low ms (z .1))
+      rw (regular-hears (searches k [] (d .kind) (d .body)) true d (bit-in-rom (d .kind) (d .body) .2), search-sends-bit k (d .kind) (d .body) (z .0) low)
+      (not-or (bitAt (d .body) k) (someLow (Slot true) (standsBy (searches k []) ms)) (bits-level (rests k (suc m) ms)) (bits-low ms (z .1)))
+  bits-low (inactive d ∷ ms) z = rw (regular-hears waitingState true d refl, waiting-sends (d .kind) (d .body)) (bits-low ms (z .1))
 
   complements-low : (a : Bool) (ms : List Member) → Sized (map device ms)
-      → not (someLow (standsBy (searches k (a ∷ [])) ms)) ≡ complements-level (rests k (suc m) ms)
-  unfolding someLow pullsLow
+      → not (someLow (Slot true) (standsBy (searches k (a ∷ [])) ms)) ≡ complements-level (rests k (suc m) ms)
+  unfolding someLow pullsLow answersLow
   complements-low a [] z = refl
   complements-low a (active d ∷ ms) z =
-      rw (search-sends-complement k (d .kind) (d .body) (z .0) low a)
-      (not-or (not (bitAt (d .body) k)) (someLow (standsBy (searches k (a ∷ [])) ms)) (complements-level (rests k (suc m) ms)) (complements-low a ms (z .1)))
-  complements-low a (inactive d ∷ ms) z = rw (waiting-sends (d .kind) (d .body)) (complements-low a ms (z .1))
+      rw (regular-hears (searches k (a ∷ []) (d .kind) (d .body)) true d (complement-in-rom a (d .kind) (d .body) .2), search-sends-complement k (d .kind) (d .body) (z .0) low a)
+      (not-or (not (bitAt (d .body) k)) (someLow (Slot true) (standsBy (searches k (a ∷ [])) ms)) (complements-level (rests k (suc m) ms)) (complements-low a ms (z .1)))
+  complements-low a (inactive d ∷ ms) z = rw (regular-hears waitingState true d refl, waiting-sends (d .kind) (d .body)) (complements-low a ms (z .1))
 
   pub bits-read : (ms : List Member) → Sized (map device ms) → levelOf (Slot true) (standsBy (searches k []) ms) ≡ bits-level (rests k (suc m) ms)
-  unfolding levelOf
+  unfolding levelOf masterHigh
   bits-read ms z = bits-low ms z
 
   pub complements-read : (a : Bool) (ms : List Member) → Sized (map device ms)
       → levelOf (Slot true) (standsBy (searches k (a ∷ [])) ms) ≡ complements-level (rests k (suc m) ms)
-  unfolding levelOf
+  unfolding levelOf masterHigh
   complements-read a ms z = complements-low a ms z
-
-  bit-in-rom : (kind : Kind) (body : List ℕ) → InRom (searches k [] kind body)
-  unfolding shiftedOver searchBit
-  bit-in-rom kind body = (Search k, refl)
-
-  complement-in-rom : (a : Bool) (kind : Kind) (body : List ℕ) → InRom (searches k (a ∷ []) kind body)
-  unfolding shiftedOver searchBit
-  complement-in-rom a kind body = (Search k, refl)
-
-  pub direction-in-rom : (a b : Bool) (kind : Kind) (body : List ℕ) → InRom (searches k (a ∷ b ∷ []) kind body)
-  unfolding shiftedOver searchBit
-  direction-in-rom a b kind body = (Search k, refl)
 
   -- no byte is copied in any of the three slots
   pub bits-copied : (a : Bool) (ms : List Member) → copiedByAll (Slot true) a (standsBy (searches k []) ms) ≡ 0
@@ -223,14 +235,14 @@ moved k bit (inactive d) = inactive d
 
 -- to its next bit; after the last it is addressed
 abbrev pub nextBit : ℕ → Kind → List ℕ → LineState
-nextBit k kind body = lineState (cond (ltb k 63) (searchBit (k + 1) body) (addressed kind))
+nextBit k kind body = regularState (cond (ltb k 63) (searchBit (k + 1) body) (addressed kind))
 
 -- a device that a pass has found is at the memory command, or waits where its battery is flat
 abbrev pub addressedState : Kind → List ℕ → LineState
-addressedState kind body = lineState (addressed kind)
+addressedState kind body = regularState (addressed kind)
 
 choose-member : (same : Bool) (t : Transfer) (d : Device)
-    → inState (lineState (cond same t waiting)) d ≡ standing (λ kind body. lineState t) (cond same (active d) (inactive d))
+    → inState (regularState (cond same t waiting)) d ≡ standing (λ kind body. regularState t) (cond same (active d) (inactive d))
 choose-member true t d = refl
 choose-member false t d = refl
 
@@ -263,8 +275,8 @@ direction-after k a b bit (inactive d ∷ ms) low z =
 pub next-bit : (k : ℕ) (ms : List Member) → k < 63 → standsBy (nextBit k) ms ≡ standsBy (searches (suc k) []) ms
 unfolding shiftedOver
 next-bit k ms h =
-    ap (λ (t : Bool). standsBy (λ kind body. lineState (cond t (searchBit (k + 1) body) (addressed kind))) ms) (lt-ltb k 63 h)
-    ∙ ap (λ (j : ℕ). standsBy (λ kind body. lineState (searchBit j body)) ms) (add-one k)
+    ap (λ (t : Bool). standsBy (λ kind body. regularState (cond t (searchBit (k + 1) body) (addressed kind))) ms) (lt-ltb k 63 h)
+    ∙ ap (λ (j : ℕ). standsBy (λ kind body. regularState (searchBit j body)) ms) (add-one k)
 
 pub last-bit : (ms : List Member) → standsBy (nextBit 63) ms ≡ standsBy addressedState ms
 last-bit ms = refl
@@ -304,11 +316,11 @@ pub waiting-unwritten : Unwritten (λ kind body. waitingState)
 waiting-unwritten kind body = rom-reset waitingState Waiting refl kind body
 
 pub addressed-unwritten : Unwritten addressedState
-addressed-unwritten kind body = addressed-reset kind body
+addressed-unwritten kind body = addressed-reset kind false body
 
 pub reset-all : (s : Kind → List ℕ → LineState) (level : Bool) (ms : List Member) → Unwritten s
     → map (nextDevice Reset level) (standsBy s ms) ≡ stands resetState (map active (map device ms))
-unfolding nextDevice nextState nextBody
+unfolding nextDevice nextState nextBody heardState heardBody hears
 reset-all s level [] u = refl
 reset-all s level (active d ∷ ms) u = let h = u (d .kind) (d .body) in let t = reset-all s level ms u in cc
 reset-all s level (inactive d ∷ ms) u = let h = waiting-unwritten (d .kind) (d .body) in let t = reset-all s level ms u in cc
@@ -332,7 +344,7 @@ command-stage [] t e = e
 command-stage (level ∷ levels) t e = command-stage levels _ e
 
 command-in-rom : (levels : List Bool) → InRom (commanded levels)
-command-in-rom levels = (Command, command-stage levels _ refl)
+command-in-rom levels = (Command, command-stage levels _ refl, refl)
 
 -- no byte is copied in it
 pub command-copied : (levels : List Bool) (sent : Bool) (ms : List Member)
@@ -346,10 +358,13 @@ command-after levels sent ms low z =
     slot-all (λ kind body. commanded levels) (λ kind body. commanded (levels ++ sent ∷ [])) sent sent ms (λ kind body. command-in-rom levels)
     (λ d h. command-goes-on levels (d .kind) (d .body) h sent low) z
 
--- and the eighth
+-- and the eighth: the command decides the stage and the speed
+abbrev pub commandedBy : ℕ → Kind → List ℕ → LineState
+commandedBy value kind body = lineState (romCommand value kind false body) (commandSpeed value kind false)
+
 pub command-done : (levels : List Bool) (sent : Bool) (ms : List Member) → length levels ≡ 7 → Sized (map device ms)
     → map (nextDevice (Slot sent) sent) (stands (commanded levels) ms)
-    ≡ standsBy (λ kind body. lineState (romCommand (spelled (levels ++ sent ∷ [])) kind body)) ms
+    ≡ standsBy (λ kind body. commandedBy (spelled (levels ++ sent ∷ [])) kind body) ms
 command-done levels sent ms last z =
-    slot-all (λ kind body. commanded levels) (λ kind body. lineState (romCommand (spelled (levels ++ sent ∷ [])) kind body)) sent sent ms (λ kind body. command-in-rom levels)
+    slot-all (λ kind body. commanded levels) (λ kind body. commandedBy (spelled (levels ++ sent ∷ [])) kind body) sent sent ms (λ kind body. command-in-rom levels)
     (λ d h. command-ends levels (d .kind) (d .body) h sent last) z

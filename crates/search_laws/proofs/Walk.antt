@@ -11,13 +11,13 @@ use Rattle.bits.specs.Crc.{registrationCheck}
 use Rattle.bits.specs.Levels.{spelled}
 use Rattle.kind.specs.declared.Kind.{Kind}
 use Rattle.line.specs.Slots.{shiftedOver}
-use Rattle.rom.specs.Rom.{romCommand}
+use Rattle.rom.specs.Rom.{romCommand, commandSpeed}
 use Rattle.device.specs.declared.LineState.{LineState}
 use Rattle.device.specs.Device.{resetState}
 use Rattle.device.proofs.Search.{commanded}
 use Rattle.bus.specs.declared.Event.{Event}
 use Rattle.bus.specs.declared.Event.the-variants as events
-use Rattle.bus.specs.Bus.{Device, eventOf, presenceLevel, levelOf, nextDevice, copiedByAll}
+use Rattle.bus.specs.Bus.{Device, eventOf, hears, answersLow, pullsLow, someLow, masterHigh, levelOf, nextDevice, copiedByAll}
 use Rattle.master.specs.declared.Stage.the-variants.{Reset, Command, FirstRead, Direction}
 use Rattle.master.specs.declared.Discrepancy.{Discrepancy}
 use Rattle.master.specs.declared.Discrepancy.the-variants.{None, At}
@@ -266,7 +266,7 @@ module _ (p : ℕ) (few : p < 64) (c : Code) (previous : List ℕ) (last : Discr
   command : (ms : List Member) (code : List ℕ) (opened : Discrepancy) {r : Master} {fs : List Device} {trace codes : List ℕ} → Sized (map device ms)
       → Driven (masterOf (FirstRead 0) p code opened previous last) (standsBy (searches 0 []) ms) trace codes r fs
       → Driven (masterOf (Command 0) p code opened previous last) (stands resetState ms) (0 ∷ 0 ∷ 0 ∷ 0 ∷ 1 ∷ 1 ∷ 1 ∷ 1 ∷ trace) codes r fs
-  unfolding answerValue answerIn slotEvent bitOf shiftedOver spelled levelByte romCommand
+  unfolding answerValue answerIn slotEvent bitOf shiftedOver spelled levelByte romCommand commandSpeed
   command ms code opened z go =
       let four = false ∷ false ∷ false ∷ false ∷ [] in
       command-slot [] 0 false ms code opened refl (omega arith) z refl
@@ -281,8 +281,8 @@ module _ (p : ℕ) (few : p < 64) (c : Code) (previous : List ℕ) (last : Discr
       (same-bodies (searches 0 []) (λ kind body. commanded (four ++ true ∷ true ∷ true ∷ [])) ms)
       (command-copied (four ++ true ∷ true ∷ true ∷ []) true ms) (none-completed p _ _ _ _ _) go)))))))
 
-  someone : (s : Kind → List ℕ → LineState) (ms : List Member) → 0 < length ms → presenceLevel (standsBy s ms) ≡ false
-  unfolding presenceLevel
+  someone : (s : Kind → List ℕ → LineState) (ms : List Member) → 0 < length ms → levelOf events.Reset (standsBy s ms) ≡ false
+  unfolding levelOf masterHigh someLow pullsLow hears answersLow
   someone s [] h = absurd (omega arith)
   someone s (m ∷ ms) h = refl
 
@@ -295,7 +295,7 @@ module _ (p : ℕ) (few : p < 64) (c : Code) (previous : List ℕ) (last : Discr
       × Driven (masterOf Reset p noBits None previous last) (standsBy s ms) (passTrace d) (putBits noBits 0 d)
       (masterOf (stageAfterPass h (p + 1)) (p + 1) noBits None (putBits noBits 0 d) h) (standsBy addressedState ns)
       × (map device ns ≡ map device ms)
-  unfolding answerValue answerIn eventOf levelOf
+  unfolding answerValue answerIn eventOf
   whole-pass s ms {d} {h} u z some f r =
       let all = map active (map device ms) in
       let same : map device all ≡ map device ms = all-active (map device ms) in

@@ -1,4 +1,4 @@
--- No memory function of a DS1992 or DS1993 changes a body's length or its registration code. Assumes nothing.
+-- No memory function of a DS1992, DS1993 or DS1996 changes a body's length or its registration code. Assumes nothing.
 use Prim.Native.Nat.{ℕ, suc, _+_, _*_, _/_, _%_, _≤_}
 use mathlib.Core.Path.{_≡_, refl, _∙_}
 use mathlib.Core.Bool.{Bool, true, false, cond, not, _&&_}

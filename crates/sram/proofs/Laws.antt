@@ -1,4 +1,4 @@
--- Laws of the DS1992/DS1993 memory stage: a copy byte by byte, and how many bytes it writes at most. Assumes nothing.
+-- Laws of the memory stage with a scratchpad: a copy byte by byte, and how many bytes it writes at most. Assumes nothing.
 use Prim.Native.Nat.{ℕ, suc, _+_, _-_, _<_, _≤_}
 use mathlib.Core.Path.{_≡_, refl, sym, ap, _∙_}
 use mathlib.Core.Bool.{Bool, true, false, cond, _||_}

@@ -1,7 +1,7 @@
--- Document 01, 'DS1992/DS1993 memory stage', and document 02, items 3 and 4, are stated here: the transfers of the
--- memory functions, which transfer follows which, the body after each, and what a copy did. The memory has `size`
--- bytes. A device that sends ones until a reset is waiting. These definitions do not test the numbers of a stage: the
--- crate `device` sees to it that they are in range and that the body has its kind's size.
+-- Document 01, 'DS1992/DS1993 memory stage', and document 02, items 3 and 4, are stated here, for the DS1996 as well
+-- (item 9): the transfers of the memory functions, which transfer follows which, the body after each, and what a copy
+-- did. The memory has `size` bytes. A device that sends ones until a reset is waiting. These definitions do not test
+-- the numbers of a stage: the crate `device` sees to it that they are in range and that the body has its kind's size.
 use Prim.Native.Nat.{ℕ, _+_, _-_, _*_, _/_, _%_}
 use mathlib.Core.Bool.{Bool, true, cond, not, _&&_, _||_}
 use mathlib.Core.List.{List}

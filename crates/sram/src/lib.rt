@@ -1,5 +1,5 @@
-// This crate is the memory stage of a DS1992 or DS1993, with its scratchpad and memory. `size` is the number of bytes
-// of memory.
+// This crate is the memory stage of a DS1992, DS1993 or DS1996, with its scratchpad and memory. `size` is the number of
+// bytes of memory, and the only thing here in which they differ.
 //
 // The end of a transfer is two functions: `next` returns the transfer that follows and only reads the body, `write`
 // changes the body and says what a copy did. So a search, which changes no body, needs only the first.

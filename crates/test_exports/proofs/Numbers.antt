@@ -2,37 +2,36 @@
 -- says; and an image that is not refused is no longer than the copy that is made of it. Assumes nothing.
 use Prim.Native.Nat.{ℕ, zero, suc, _+_, _-_, _≤_}
 use mathlib.Core.Path.{_≡_, refl, sym, ap, _∙_}
+use mathlib.Core.Bool.{Bool, true, false, cond}
 use mathlib.Core.List.{List, [], _∷_, _++_}
 use native.Mathlib.Omega.{arith}
 use lib.ListN.{length, getD, set, take, drop, replicate, length-set, length-replicate, replicate-append-replicate}
 use lib.Seq.{sets, length-sets, sets-eq, take-at, length-take-le, set-at, take-suc, drop-cons, append-snoc, take-length}
-use borrow.Author.Tests.{le-ltb}
+use lib.Dec.{eqb}
 use Rattle.image.specs.Image.{countOf}
 use Rattle.image.specs.Refusal.{imageRefusal}
 use Rattle.image.proofs.Accepted.{Known, accepted-known}
-use Rattle.image.proofs.Laws.{packed-bound}
 use Rattle.device.specs.declared.LineState.{LineState}
 use Rattle.device.specs.Device.{waitingState}
+use Rattle.bus.specs.declared.Event.{Event}
+use Rattle.bus.specs.declared.Event.the-variants.{Slot, Reset, Pulse, OverdriveSlot, OverdriveReset}
 use Rattle.bus.specs.Bus.{Device, eventOf, lookedAt, busStep, withAnswer, runTrace}
 use Rattle.bus.specs.Run.{waitingDevices, statesOf}
 use Rattle.bus.specs.Refusal.{runRefusal}
 use Rattle.bus.specs.Loops.{lookedOn, RunState, runState, runEventsUpTo}
 use Rattle.bus.proofs.Laws.{admitted}
-use Rattle.bus.proofs.Idle.{event-pulse}
 use Rattle.bus.proofs.Looked.{looked-few}
 use Rattle.bus.proofs.Ranges.{AllIn, run-in}
 use Rattle.bus.proofs.Runs.{run-same, same-length}
 use Rattle.bus.proofs.Shown.{Stand, stand-same, imageOf, looked-is, events-are, waiting-all, waiting-stands}
 use Rattle.bus.proofs.Shown.{waiting-in, waiting-image, waiting-states}
 use Rattle.test_exports.specs.Looked.{lookedByte, lookedIn, lookedAfter}
-use Rattle.test_exports.specs.Loops.{numberOf, numbers}
+use Rattle.test_exports.specs.Loops.{numberFor, numberOf, numbers}
 
 -- ---- the longest image
 
-pub image-most : (image : List ℕ) → imageRefusal image ≡ 0 → length image ≤ 35778
-image-most image e =
-    let known = accepted-known image e in
-    omega (arith, known .whole, known .few, packed-bound image (countOf image))
+pub image-most : (image : List ℕ) → imageRefusal image ≡ 0 → length image ≤ 65535
+image-most image e = accepted-known image e .short
 
 -- the copy: the front of so many bytes, where it has room there
 pub copy-length : (image : List ℕ) (m : ℕ) → length (sets (replicate m 0) 0 image) ≡ m
@@ -63,14 +62,29 @@ looked-length [] ds = refl
 looked-length (byte ∷ t) ds = ap suc (looked-length t (busStep (eventOf byte) ds .devices))
 
 -- the byte that is written for an event
+number-for : (event : Event) (ds : List Device) → length ds ≤ 64 → numberFor event (lookedAt event ds) ≡ lookedByte event ds
+unfolding numberFor lookedByte
+number-for (Slot sent) ds few = omega (arith, few, looked-few (Slot sent) ds)
+number-for Reset ds few = refl
+number-for Pulse ds few = refl
+number-for (OverdriveSlot sent) ds few = omega (arith, few, looked-few (OverdriveSlot sent) ds)
+number-for OverdriveReset ds few = refl
+
 number-is : (byte : ℕ) (ds : List Device) → length ds ≤ 64
     → numberOf byte (lookedAt (eventOf byte) ds) ≡ lookedByte (eventOf byte) ds
-unfolding numberOf lookedByte eventOf
-number-is zero ds few = omega (arith, few, looked-few (eventOf 0) ds)
-number-is (suc zero) ds few = omega (arith, few, looked-few (eventOf 1) ds)
-number-is (suc (suc zero)) ds few = refl
-number-is (suc (suc (suc byte))) ds few =
-    rw (event-pulse (suc (suc (suc byte))) (omega arith), le-ltb (suc (suc (suc byte))) 2 (omega arith))
+unfolding numberOf
+number-is byte ds few = number-for (eventOf byte) ds few
+
+-- a byte that is none of the four slots
+pub no-slot : (byte looked : ℕ) → eqb byte 0 ≡ false → eqb byte 1 ≡ false → eqb byte 4 ≡ false → eqb byte 5 ≡ false
+    → numberOf byte looked ≡ 255
+unfolding numberOf numberFor eventOf
+no-slot byte looked a b c d = rw (a, b, c, d) (choose (eqb byte 2) (eqb byte 6))
+  where
+    choose : (x y : Bool) → numberFor (cond x Reset (cond y OverdriveReset Pulse)) looked ≡ 255
+    choose true y = refl
+    choose false true = refl
+    choose false false = refl
 
 pub numbers-length : (trace : List ℕ) (n k : ℕ) (s : RunState) → length (numbers trace n k s) ≡ length (s .answers)
 unfolding numbers

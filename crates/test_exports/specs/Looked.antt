@@ -4,15 +4,18 @@ use Prim.Native.Nat.{ℕ, zero, suc}
 use mathlib.Core.List.{List, [], _∷_, _++_}
 use lib.ListN.{length, drop}
 use Rattle.bus.specs.declared.Event.{Event}
-use Rattle.bus.specs.declared.Event.the-variants.{Slot, Reset, Pulse}
+use Rattle.bus.specs.declared.Event.the-variants.{Slot, Reset, Pulse, OverdriveSlot, OverdriveReset}
 use Rattle.bus.specs.Bus.{Device, eventOf, lookedAt, busStep}
 use Rattle.bus.specs.Run.{waitingDevices}
 
--- A slot's byte is its number of devices looked at; an event that is not a slot has none, and its byte is 255.
+-- A slot's byte, at either speed, is its number of devices looked at; an event that is not a slot has none, and its
+-- byte is 255.
 unfoldable pub lookedByte : Event → List Device → ℕ
 lookedByte (Slot sent) ds = lookedAt (Slot sent) ds
 lookedByte Reset ds = 255
 lookedByte Pulse ds = 255
+lookedByte (OverdriveSlot sent) ds = lookedAt (OverdriveSlot sent) ds
+lookedByte OverdriveReset ds = 255
 
 -- Each event of a trace finds the devices as the one before left them.
 unfoldable pub lookedIn : List ℕ → List Device → List ℕ

@@ -1,15 +1,23 @@
 -- Nothing here is from the documents: these definitions say what the loop below `probe_looked` does, for any image and
 -- any line states. Where the run is not refused this is what `Looked.antt` says (`proofs/Numbers.antt`).
 use Prim.Native.Nat.{ℕ, zero, suc, _%_}
-use mathlib.Core.Bool.{cond}
 use mathlib.Core.List.{List}
 use lib.ListN.{length, getD, set}
-use lib.Dec.{ltb}
+use Rattle.bus.specs.declared.Event.{Event}
+use Rattle.bus.specs.declared.Event.the-variants.{Slot, Reset, Pulse, OverdriveSlot, OverdriveReset}
+use Rattle.bus.specs.Bus.{eventOf}
 use Rattle.bus.specs.Loops.{lookedOn, RunState, runState, runEventsUpTo}
 
 -- This is the byte that is written for an event whose level looked at `looked` devices.
+unfoldable pub numberFor : Event → ℕ → ℕ
+numberFor (Slot sent) looked = looked % 256
+numberFor Reset looked = 255
+numberFor Pulse looked = 255
+numberFor (OverdriveSlot sent) looked = looked % 256
+numberFor OverdriveReset looked = 255
+
 unfoldable pub numberOf : ℕ → ℕ → ℕ
-numberOf byte looked = cond (ltb byte 2) (looked % 256) 255
+numberOf byte looked = numberFor (eventOf byte) looked
 
 -- This is what is written after the first k events on n devices. The bytes that are written over stand in the place of
 -- the answers.

@@ -6,7 +6,7 @@ use image::ACCEPTED;
 use master::End;
 use master::Outcome;
 ghost use mathlib.Core.Path.{_≡_};
-ghost use Prim.Native.Nat.{_≤_};
+ghost use Prim.Native.Nat.{_≤_, _%_};
 ghost use lib.ListN.{length, replicate};
 ghost use lib.Seq.{sets};
 ghost use Rattle.master.specs.Master.{endNumber};
@@ -29,8 +29,8 @@ const NO_SLOT: u8 = 255;
 // An image has at most 64 devices.
 const MOST_DEVICES: usize = 64;
 
-// The longest image has 64 devices with the longest body, and their entries.
-const MOST_BYTES: usize = 35778;
+// An image has at most so many bytes.
+const MOST_BYTES: usize = 65535;
 
 // The numbers of the master's ends are document 01's.
 fn end_number(end: End) -> u32
@@ -110,15 +110,24 @@ pub extern "C" fn probe_remaining<'a>(
     part.len() as u64
 }
 
+fn low_byte(number: usize) -> u8
+    ensures { λ r. ⌜ r ≡ number % 256 ⌝ }
+{
+    (number % 256) as u8
+}
+
 // This is the number of devices that the level of an event looked at, as a byte; it is 255 for an event that is not a
 // slot.
 fn number_of(byte: u8, result: EventResult) -> u8
     ensures { λ r. ⌜ r ≡ numberOf byte (result .looked) ⌝ }
 {
-    if byte < 2 {
-        return (result.looked % 256) as u8;
+    match byte {
+        0 => low_byte(result.looked),
+        1 => low_byte(result.looked),
+        4 => low_byte(result.looked),
+        5 => low_byte(result.looked),
+        _ => NO_SLOT,
     }
-    NO_SLOT
 }
 
 // This writes the number for every event of a trace on n devices, which are stepped as in a run.

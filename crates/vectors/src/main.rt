@@ -159,7 +159,7 @@ fn single_causes(image: [u8; LENGTH]) {
     report(b"1: more than 64 devices", &with(image, 0, 65));
     report(b"1: edition 3", &with(image, 1, 3));
     report(b"1: second entry byte 1 at device 2", &with(image, 11, 1));
-    report(b"1: unknown family at device 1", &with(image, 6, 0x0C));
+    report(b"1: unknown family at device 1", &with(image, 6, 0x04));
     report(b"2: offset of device 1 one more", &with(image, 8, 159));
     report(b"2: offset of device 2, high byte", &with(image, 13, 2));
     report_first(b"2: last byte missing", image, 472);
@@ -178,7 +178,7 @@ fn single_causes(image: [u8; LENGTH]) {
 // Two causes come together, the lower number's at the later device: the lower number wins over the whole image.
 fn cause_pairs(image: [u8; LENGTH]) {
     let doubled = with_code(image, THIRD, [0x09, 0x2B, 0xC5, 0xFB, 0, 0, 0, 0x97]);
-    report(b"1 and 2", &with(with(image, 4, 15), 10, 0x0C));
+    report(b"1 and 2", &with(with(image, 4, 15), 10, 0x04));
     report(b"1 and 3", &with(with(image, FIRST + 7, 0), 11, 1));
     report(b"1 and 4", &with(doubled, 7, 1));
     report(b"2 and 3", &with(with(image, FIRST + 7, 0), 12, 0));

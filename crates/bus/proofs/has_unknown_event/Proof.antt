@@ -11,7 +11,7 @@ use Rattle.bus.proofs.has_unknown_event.Statement.{statement}
 use Rattle.bus.proofs.has_unknown_event.Tie as tie
 
 abbrev Inv-loop : tie.InvT-loop
-Inv-loop trace found₀ k₀ found k = (k ≤ length trace) × ((found || someByte (λ byte. ltb 3 byte) (drop k trace)) ≡ someByte (λ byte. ltb 3 byte) trace)
+Inv-loop trace found₀ k₀ found k = (k ≤ length trace) × ((found || someByte (λ byte. ltb 6 byte) (drop k trace)) ≡ someByte (λ byte. ltb 6 byte) trace)
 
 abbrev μ-loop : tie.MeasureT-loop
 μ-loop trace found₀ k₀ found k = length trace - k
@@ -20,10 +20,10 @@ loop-holds : tie.Need-loop-holds Inv-loop μ-loop
 loop-holds c = (omega arith, refl)
 
 loop-again : tie.Need-loop-again Inv-loop μ-loop
-loop-again c = (omega arith, rw (c .either .ensures) (byte-more (λ byte. ltb 3 byte) (c .before .before .before .before .before .args .trace .now) (c .before .before .before .loop .k) (c .before .before .before .loop .found) (c .before .before .loop-test .taken) (c .before .before .before .loop .inv .1)))
+loop-again c = (omega arith, rw (c .either .ensures) (byte-more (λ byte. ltb 6 byte) (c .before .before .before .before .before .args .trace .now) (c .before .before .before .loop .k) (c .before .before .before .loop .found) (c .before .before .loop-test .taken) (c .before .before .before .loop .inv .1)))
 
 returns : tie.Need-returns Inv-loop μ-loop
-returns c = byte-end (λ byte. ltb 3 byte) _ _ _ (c .loop-test .left) (c .before .loop .inv .1)
+returns c = byte-end (λ byte. ltb 6 byte) _ _ _ (c .loop-test .left) (c .before .loop .inv .1)
 
 pub has-unknown-event-spec : {M : Type 1} → statement M
 has-unknown-event-spec =

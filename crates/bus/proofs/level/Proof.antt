@@ -25,7 +25,7 @@ use Rattle.bus.specs.Loops.{fewerOf, askedOf, goesOnAt, scanWhere, lineA
 use Rattle.bus.proofs.Laws.{fewer-second}
 use Rattle.bus.proofs.Levels.{highAfter, asked-few, scanEnd, end-few, scan-goes, scan-ends, scan-is}
 use Rattle.bus.proofs.Lines.{width, fits-at, fits-next, R, mach, typed, copyR, line, scan}
-use Rattle.bus.proofs.Shapes.{level-shape as shape, fewer-shape, asked-shape, looks-on-shape, sends-shape}
+use Rattle.bus.proofs.Shapes.{level-shape as shape, fewer-shape, asked-shape, looks-on-shape, leaves-high-shape}
 use Rattle.bus.proofs.Shapes.{scan-of-shape}
 use Rattle.bus.proofs.fewer as fewer
 use Rattle.bus.proofs.fewer.Symbol as fewer-def
@@ -39,10 +39,10 @@ use Rattle.bus.proofs.looks_on as looks-on
 use Rattle.bus.proofs.looks_on.Symbol as looks-on-def
 use Rattle.bus.proofs.looks_on.Symbol.{name as #bus·looks-on}
 use Rattle.bus.proofs.looks_on.Met as looks-on-thm
-use Rattle.device.proofs.LineState.sends_as_is as sends
-use Rattle.device.proofs.LineState.sends_as_is.Symbol as sends-def
-use Rattle.device.proofs.LineState.sends_as_is.Symbol.{name as #device·sends}
-use Rattle.device.proofs.LineState.sends_as_is.Met as sends-thm
+use Rattle.bus.proofs.leaves_high as leaves-high
+use Rattle.bus.proofs.leaves_high.Symbol as leaves-high-def
+use Rattle.bus.proofs.leaves_high.Symbol.{name as #bus·leaves-high}
+use Rattle.bus.proofs.leaves_high.Met as leaves-high-thm
 use Rattle.bus.proofs.scan_of as scan-of
 use Rattle.bus.proofs.scan_of.Symbol as scan-of-def
 use Rattle.bus.proofs.scan_of.Symbol.{name as #bus·scan-of}
@@ -57,7 +57,7 @@ module _ {M : Type 1} (𝓤 : URA M) (H : Heap 𝓤) (A : Atoms 𝓤) (W : Given
     (known-fewer : Met 𝓤 H A 𝓣 fewer-shape (fewer.clauses 𝓤 H A mem run) #bus·fewer)
     (known-asked : Met 𝓤 H A 𝓣 asked-shape (asked.clauses 𝓤 H A mem run) #bus·asked)
     (known-looks-on : Met 𝓤 H A 𝓣 looks-on-shape (looks-on.clauses 𝓤 H A mem run) #bus·looks-on)
-    (known-sends : Met 𝓤 H A 𝓣 sends-shape (sends.clauses 𝓤 H A mem run) #device·sends)
+    (known-leaves-high : Met 𝓤 H A 𝓣 leaves-high-shape (leaves-high.clauses 𝓤 H A mem run) #bus·leaves-high)
     (known-scan-of : Met 𝓤 H A 𝓣 scan-of-shape (scan-of.clauses 𝓤 H A mem run) #bus·scan-of)
     (κs : Lfts 1) (qs : Shares 1) (x : RefT (List LineState)) (c v : ℕ) where
   abbrev ys : List LineState
@@ -74,12 +74,12 @@ module _ {M : Type 1} (𝓤 : URA M) (H : Heap 𝓤) (A : Atoms 𝓤) (W : Given
   n = fewerOf c (length ys)
 
   abbrev m : ℕ
-  m = askedOf v n
+  m = askedOf (eventOf v) n
 
   -- what is high after i of them, whether the scan goes on then, how many are looked at, the result, and the line state
   -- of device i
   abbrev hi : ℕ → Bool
-  hi i = highAfter ys i
+  hi i = highAfter (eventOf v) ys i
 
   abbrev on : ℕ → Bool
   on i = goesOnAt (hi i) i m
@@ -88,13 +88,13 @@ module _ {M : Type 1} (𝓤 : URA M) (H : Heap 𝓤) (A : Atoms 𝓤) (W : Given
   few = fewer-second c (length ys)
 
   some : m ≤ length ys
-  some = omega (arith, asked-few v n, few)
+  some = omega (arith, asked-few (eventOf v) n, few)
 
   abbrev e : ℕ
-  e = scanEnd ys m some
+  e = scanEnd (eventOf v) ys m some
 
   abbrev sc : Scan
-  sc = scanWhere (eventOf v) n (hi e) e
+  sc = scanWhere (eventOf v) (hi e) e
 
   abbrev l : ℕ → LineState
   l i = lineAt ys i
@@ -116,7 +116,7 @@ module _ {M : Type 1} (𝓤 : URA M) (H : Heap 𝓤) (A : Atoms 𝓤) (W : Given
       let n-fits : n < 2 ^ 64 = omega (arith, few, room .0) in
       let m-fits : m < 2 ^ 64 = omega (arith, some, room .0) in
       let v-is : Is u8 v (vint w8 v ∷ []) = are .1 .1 .0 in
-      let last : e ≤ m = end-few ys m some in
+      let last : e ≤ m = end-few (eventOf v) ys m some in
       let e-fits : e < 2 ^ 64 = omega (arith, last, m-fits) in
       enters ! shape κs (x, (c, (v, tt))) 𝓣 code.function are refl (λ bs.
       new ! (of-opd ! (count ! refl refl)) refl (tt, record { fits = room .0 }) $
@@ -140,17 +140,18 @@ module _ {M : Type 1} (𝓤 : URA M) (H : Heap 𝓤) (A : Atoms 𝓤) (W : Given
       asks ! 𝓣 looks-on-shape (looks-on.clauses 𝓤 H A mem run) known-looks-on tt tt tt (hi i, (i, (m, tt)))
       (vbool (hi i) ∷ [], (vint w64 i ∷ [], (vint w64 m ∷ [], tt))) tt (refl, ((refl, i-fits), ((refl, m-fits), tt)))
       (id⊢ 𝓤 _) (λ r ws. r ≡ on i) (λ r ws. id⊢ 𝓤 _)
-      true (tt, (tt, (tt, tt))) (λ r ws h. (h ∙ scan-goes ys m some i small, refl))
+      true (tt, (tt, (tt, tt))) (λ r ws h. (h ∙ scan-goes (eventOf v) ys m some i small, refl))
       (also ! refl (also ! refl (also ! refl (no-more !)))) [] refl (λ _ _. lands-new ! refl (tt, tt) $
       stays ! (var ! refl) $
       new ! (bin ! (var ! refl) (lit ! tt) (record { fits = at-fits })) refl (tt, record { fits = at-fits }) $
       points ! width i (head ! refl refl) (var ! refl) refl tt $ sees ! line 15 z ys i waitingState b o there refl (λ is.
       new ! (of-opd ! (elem ! refl (in-row ! line 15 z ys i waitingState b o there refl refl))) refl (typed 𝓤 H A W (l i) (mach (l i)) is) $
       new ! (of-opd ! (var ! refl)) refl (typed 𝓤 H A W (l i) (mach (l i)) is) $
-      asks ! 𝓣 sends-shape (sends.clauses 𝓤 H A mem run) known-sends tt tt tt (l i, tt) (mach (l i) ∷ [], tt) tt
-      (is, tt) (id⊢ 𝓤 _) (λ r ws. r ≡ hi (suc i)) (λ r ws. id⊢ 𝓤 _)
-      (hi (suc i)) (tt, tt) (λ r ws e. (e, refl))
-      (also ! refl (no-more !)) [] refl (λ _ _. lands-renew ! refl (tt, tt) $
+      asks ! 𝓣 leaves-high-shape (leaves-high.clauses 𝓤 H A mem run) known-leaves-high tt tt tt (v, (l i, tt))
+      (vint w8 v ∷ [], (mach (l i) ∷ [], tt)) tt
+      (v-is, (is, tt)) (id⊢ 𝓤 _) (λ r ws. r ≡ hi (suc i)) (λ r ws. id⊢ 𝓤 _)
+      (hi (suc i)) (tt, (tt, tt)) (λ r ws e. (e, refl))
+      (also ! refl (also ! refl (no-more !))) [] refl (λ _ _. lands-renew ! refl (tt, tt) $
       bump ! refl next-fits tt $ forget ! 8 refl $ forget ! 10 refl $ forget ! 11 refl $ forget ! 12 refl $
       forget ! 13 refl $ on-to))))
       -- the scan has ended: its result is made, the lines are shut, and the function returns
@@ -158,14 +159,14 @@ module _ {M : Type 1} (𝓤 : URA M) (H : Heap 𝓤) (A : Atoms 𝓤) (W : Given
       asks ! 𝓣 looks-on-shape (looks-on.clauses 𝓤 H A mem run) known-looks-on tt tt tt (hi e, (e, (m, tt)))
       (vbool (hi e) ∷ [], (vint w64 e ∷ [], (vint w64 m ∷ [], tt))) tt (refl, ((refl, e-fits), ((refl, m-fits), tt)))
       (id⊢ 𝓤 _) (λ r ws. r ≡ on e) (λ r ws. id⊢ 𝓤 _)
-      false (tt, (tt, (tt, tt))) (λ r ws h. (h ∙ scan-ends ys m some, refl))
+      false (tt, (tt, (tt, tt))) (λ r ws h. (h ∙ scan-ends (eventOf v) ys m some, refl))
       (also ! refl (also ! refl (also ! refl (no-more !)))) [] refl (λ _ _. lands-new ! refl (tt, tt) $
       leaves-loop ! (var ! refl) $ out _ (
-      asks ! 𝓣 scan-of-shape (scan-of.clauses 𝓤 H A mem run) known-scan-of tt tt tt (v, (n, (hi e, (e, tt))))
-      (vint w8 v ∷ [], (vint w64 n ∷ [], (vbool (hi e) ∷ [], (vint w64 e ∷ [], tt)))) tt
-      (v-is, ((refl, n-fits), (refl, ((refl, e-fits), tt)))) (id⊢ 𝓤 _)
-      (λ r ws. r ≡ sc) (λ r ws. id⊢ 𝓤 _) sc (tt, (tt, (tt, (tt, tt)))) (λ r ws e. (e, refl))
-      (also ! refl (also ! refl (also ! refl (also ! refl (no-more !))))) [] refl (λ is _.
+      asks ! 𝓣 scan-of-shape (scan-of.clauses 𝓤 H A mem run) known-scan-of tt tt tt (v, (hi e, (e, tt)))
+      (vint w8 v ∷ [], (vbool (hi e) ∷ [], (vint w64 e ∷ [], tt))) tt
+      (v-is, (refl, ((refl, e-fits), tt))) (id⊢ 𝓤 _)
+      (λ r ws. r ≡ sc) (λ r ws. id⊢ 𝓤 _) sc (tt, (tt, (tt, tt))) (λ r ws e. (e, refl))
+      (also ! refl (also ! refl (also ! refl (no-more !)))) [] refl (λ is _.
       lands-new ! refl (scan .typed 𝓤 H A W sc is) $
       move ! (15 ∷ 16 ∷ []) $ closes-shr ! tt R (κs .0) z ys b o $ lowers ! 1 15 $
       returns ! (look ! 0 refl) $ quits ! (has (scan .mach sc) ∷ vs e ++ has (vbool false) ∷ []) $
@@ -181,7 +182,7 @@ level-spec 𝓤 H 𝓜 𝓖 𝓡 =
     (cited 𝓤 H _ 𝓜 𝓡 code.env #bus·fewer fewer-def.routine code.calls-bus·fewer (fewer-thm.met 𝓤 H 𝓜 𝓖 𝓡))
     (cited 𝓤 H _ 𝓜 𝓡 code.env #bus·asked asked-def.routine code.calls-bus·asked (asked-thm.met 𝓤 H 𝓜 𝓖 𝓡))
     (cited 𝓤 H _ 𝓜 𝓡 code.env #bus·looks-on looks-on-def.routine code.calls-bus·looks-on (looks-on-thm.met 𝓤 H 𝓜 𝓖 𝓡))
-    (cited 𝓤 H _ 𝓜 𝓡 code.env #device·sends sends-def.routine code.calls-device·LineState·sends-as-is
-    (sends-thm.met 𝓤 H 𝓜 𝓖 𝓡))
+    (cited 𝓤 H _ 𝓜 𝓡 code.env #bus·leaves-high leaves-high-def.routine code.calls-bus·leaves-high
+    (leaves-high-thm.met 𝓤 H 𝓜 𝓖 𝓡))
     (cited 𝓤 H _ 𝓜 𝓡 code.env #bus·scan-of scan-of-def.routine code.calls-bus·scan-of (scan-of-thm.met 𝓤 H 𝓜 𝓖 𝓡))
     κs qs (a .0) (a .1 .0) (a .1 .1 .0))

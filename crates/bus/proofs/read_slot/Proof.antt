@@ -1,56 +1,60 @@
+use Rattle.bus.proofs.Idle.{regular-hears, fallen-state, inside-state}
+use Rattle.bus.specs.Loops.{passedOver, nextStateAsIs, heardStateAsIs, deviceAtPlace, deviceIn, kindIn, bodyIn, turnState}
 use mathlib.Core.Path.{refl, sym, _∙_}
-use native.Mathlib.Omega.{arith}
-use borrow.Author.Needs.{needs}
 use Rattle.bus.specs.Bus.{eventOf}
-use Rattle.bus.specs.Loops.{passedOver, nextStateAsIs, deviceAtPlace, deviceIn, turnState}
-use Rattle.bus.proofs.Idle.{inside-state}
-use Rattle.bus.proofs.Laws.{inside-of}
+use borrow.Author.Needs.{needs}
 use Rattle.bus.proofs.read_slot.Statement.{statement}
 use Rattle.bus.proofs.read_slot.Tie as tie
 
+waiting-requires : tie.Need-waiting-requires
+waiting-requires c κs = search needs
+
 returns : tie.Need-returns
 returns c =
-    let a = c .before .before .before .before .args in
-    let inside = sym (c .before .before .goes-on .ensures) ∙ c .before .if1 .taken in
-    c .shifted .ensures ∙ inside-state (a .state) inside (a .image .now) (a .i) (a .level)
+    let a = c .before .before .before .args in
+    c .waiting .ensures ∙ fallen-state (a .state) (c .before .if1 .taken) (a .image .now) (a .i) (a .level)
+
+goes-on-requires : tie.Need-goes-on-requires
+goes-on-requires c κs = search needs
+
+shifted-requires : tie.Need-shifted-requires
+shifted-requires c κs = search needs
 
 returns-2 : tie.Need-returns-2
-unfolding turnState passedOver
-returns-2 c = rw (sym (c .before .waits .ensures) ∙ c .if2 .taken)
+returns-2 c =
+    let a = c .before .before .before .before .before .args in
+    let heard = regular-hears (a .state) (c .before .before .before .if1 .left) in
+    let inside = sym (c .before .before .goes-on .ensures) ∙ c .before .if2 .taken in
+    c .shifted .ensures ∙ inside-state (a .state) heard inside (a .image .now) (a .i) (a .level)
 
-sub-step-as-is : tie.Need-sub-step-as-is
-sub-step-as-is c =
-    let inside = inside-of _ _ _ (c .place-of .ensures) in
-    omega arith
-
-part-step-as-is-start : tie.Need-part-step-as-is-start
-part-step-as-is-start c =
-    let inside = inside-of _ _ _ (c .place-of .ensures) in
-    omega arith
-
-part-step-as-is-end : tie.Need-part-step-as-is-end
-part-step-as-is-end c =
-    let inside = inside-of _ _ _ (c .place-of .ensures) in
-    omega arith
+waits-requires : tie.Need-waits-requires
+waits-requires c κs = search needs
 
 returns-3 : tie.Need-returns-3
-unfolding turnState passedOver eventOf nextStateAsIs deviceIn deviceAtPlace
-returns-3 c =
-    let awake = sym (c .before .before .before .before .waits .ensures) ∙ c .before .before .before .if2 .left in
-    rw (awake, ← c .before .before .place-of .ensures) (c .step-as-is .ensures)
+unfolding turnState passedOver
+returns-3 c = rw (sym (c .before .waits .ensures) ∙ c .if3 .taken)
+
+read-heard-slot-requires : tie.Need-read-heard-slot-requires
+read-heard-slot-requires c κs = search needs
+
+returns-4 : tie.Need-returns-4
+unfolding turnState passedOver eventOf nextStateAsIs heardStateAsIs deviceIn deviceAtPlace kindIn bodyIn
+returns-4 c =
+    let a = c .before .before .before .before .before .before .before .args in
+    let awake = sym (c .before .before .waits .ensures) ∙ c .before .if3 .left in
+    let heard = regular-hears (a .state) (c .before .before .before .before .before .if1 .left) in
+    rw (awake, heard) (c .read-heard-slot .ensures)
 
 pub read-slot-spec : {M : Type 1} → statement M
 read-slot-spec =
     tie.close
     (tie.spec
-    (λ c κs. search needs)
-    (λ c κs. search needs)
+    waiting-requires
     returns
-    (λ c κs. search needs)
+    goes-on-requires
+    shifted-requires
     returns-2
-    (λ c κs. search needs)
-    sub-step-as-is
-    part-step-as-is-start
-    part-step-as-is-end
-    (λ c κs. search needs)
-    returns-3)
+    waits-requires
+    returns-3
+    read-heard-slot-requires
+    returns-4)

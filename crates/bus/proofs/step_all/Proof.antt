@@ -1,7 +1,7 @@
 -- `bus::step_all` meets its contract: a walk of its MIR. The image is passed on as a copy, and the lines are lent to
 -- `read_slot_all` or to `read_turn_all`, for a lifetime of the call, and come back.
--- Each arm of the `if` ends in `leaves`, the code behind it. What the master sends in a slot and the level of another
--- event have no part in a turn (`states-slot`, `states-other` of `Idle.antt`), so each leaves what the contract says.
+-- Each arm of the `if` ends in `leaves`, the code behind it. What the master sends in a slot has no part in a turn
+-- (`states-slot` of `Idle.antt`), so each leaves what the contract says.
 -- All that it knows of its callees is that each meets its contract.
 -- Assumes nothing. `Walk.antt` of `walks` says how a walk is written.
 use Rattle.walks.proofs.Walk.{Bool, true, _≡_, refl, ap, _∙_, ℕ, _<_, _≤_, arith, [], _∷_, List, length, URA}
@@ -15,7 +15,7 @@ use lib.Dec.{ltb}
 use borrow.Author.Tests.{ltb-true, ltb-false}
 use Rattle.device.specs.declared.LineState.{LineState}
 use Rattle.bus.specs.Loops.{fewerOf, turnStatesOf}
-use Rattle.bus.proofs.Idle.{states-slot, states-other}
+use Rattle.bus.proofs.Idle.{states-slot}
 use Rattle.bus.proofs.Laws.{fewer-second}
 use Rattle.bus.proofs.States.{states-fewer, states-length}
 use Rattle.bus.proofs.Lines.{R, T-true, T-false}
@@ -125,17 +125,16 @@ module _ {M : Type 1} (𝓤 : URA M) (H : Heap 𝓤) (A : Atoms 𝓤) (W : Given
       move ! (19 ∷ 17 ∷ []) $ lends ! tt R (κs .1 .0) (qs .1 .0) x′ (length ys) refl (λ α β. lowers ! 3 16 $
       asks-last ! 𝓣 read-turn-all-shape (read-turn-all.clauses 𝓤 H A mem run) known-read-turn-all (κs .0, (α ∷ [], tt))
       (qs .0, (fullShare, tt)) tt
-      (x, (under x′ β ys, (n, (v, tt))))
-      (val x ∷ [], (val x′ ∷ [], (vint w64 n ∷ [], (vint w8 v ∷ [], tt)))) tt (n-is, (v-is, tt))
+      (x, (under x′ β ys, (n, (v, (t, tt)))))
+      (val x ∷ [], (val x′ ∷ [], (vint w64 n ∷ [], (vint w8 v ∷ [], (vbool t ∷ [], tt))))) tt (n-is, (v-is, (refl, tt)))
       (factI 𝓤 _ (emp 𝓤) (few, other))
-      (λ r zs. zs .1 .0 ≡ turnStatesOf im ys n v true) (λ r zs. id⊢ 𝓤 _)
-      tt (tt, (us, (tt, (tt, tt))))
+      (λ r zs. zs .1 .0 ≡ turnStatesOf im ys n v t) (λ r zs. id⊢ 𝓤 _)
+      tt (tt, (us, (tt, (tt, (tt, tt)))))
       (λ r zs e. (
         refl,
-        ap (λ (z : List LineState). (tt, (z, (tt, (tt, tt)))))
-            (e ∙ states-other im ys n v t other ∙ states-fewer im ys c v t),
+        ap (λ (z : List LineState). (tt, (z, (tt, (tt, (tt, tt)))))) (e ∙ states-fewer im ys c v t),
       ))
-      (also ! refl (also ! refl (also ! refl (also ! refl (no-more !))))) (19 ∷ 16 ∷ 20 ∷ 17 ∷ []) refl (λ _ _.
+      (also ! refl (also ! refl (also ! refl (also ! refl (also ! refl (no-more !)))))) (19 ∷ 16 ∷ 20 ∷ 17 ∷ []) refl (λ _ _.
       move ! (18 ∷ 16 ∷ 20 ∷ []) $ backs ! tt R (κs .1 .0) (qs .1 .0) x′ (length ys) refl room α β us $
       move ! (18 ∷ 1 ∷ 19 ∷ 0 ∷ []) $ lowers ! 4 16 $ ends-new ! refl (tt, tt) $ on _ (
       leaves bs (void ∷ void ∷ void ∷ has vunit ∷ has (ptr x′) ∷ has (val x′) ∷ []) c-is v-is))))))

@@ -1,22 +1,21 @@
 -- `bus::step_event` meets its contract: a walk of its MIR. The image and the lines are lent to `slot_all` or to
 -- `turn_all`, for a lifetime of the call, and come back.
--- Each arm of the `if` ends in `leaves`, the code behind it. What the master sends in a slot and the level of another
--- event have no part in a turn (`turns-slot`, `turns-other` of `Idle.antt`), so each leaves what the contract says.
--- A reset and a program pulse copy nothing (`copied-other`), so there the sum stays at 0.
+-- Each arm of the `if` ends in `leaves`, the code behind it. What the master sends in a slot has no part in a turn
+-- (`turns-slot` of `Idle.antt`), so each leaves what the contract says.
 -- All that it knows of its callees is that each meets its contract.
 -- Assumes nothing. `Walk.antt` of `walks` says how a walk is written.
-use Rattle.walks.proofs.Walk.{Bool, true, _≡_, refl, sym, _∙_, ℕ, _<_, _≤_, [], _∷_, List, length, lit<, URA, fullShare}
-use Rattle.walks.proofs.Walk.{named, w8, w64, vunit, vint, vbool, SProp, emp, id⊢, flft, Fun, factI, Lfts, Shares}
+use Rattle.walks.proofs.Walk.{Bool, _≡_, refl, _∙_, ℕ, _<_, _≤_, [], _∷_, List, length, lit<, URA, fullShare}
+use Rattle.walks.proofs.Walk.{named, w8, w64, vint, vbool, SProp, emp, id⊢, flft, Fun, factI, Lfts, Shares}
 use Rattle.walks.proofs.Walk.{givenOf, tables, tablesOf, Memory, Routine, Heap, Tables, Atoms, Given, Item, ‵, _$_, Sq}
 use Rattle.walks.proofs.Walk.{runs, atRet, !, move, look, lit, of-opd, no-more, bin, returns, Is, u8, u64, RefT}
 use Rattle.walks.proofs.Walk.{MutSlice, Room, cited, Cell, void, has, Blocks, env, stand, quits, lowers, Walk, End, Met}
-use Rattle.walks.proofs.Walk.{enters, asks-last, finishes, proved, var, new, to, under, ptr, val, again, ifs, ends-new, ends-renew}
+use Rattle.walks.proofs.Walk.{enters, asks-last, finishes, proved, var, new, to, under, ptr, val, again, ifs, ends-renew}
 use Rattle.walks.proofs.Walk.{also, lends, backs}
 use lib.Dec.{ltb}
 use borrow.Author.Tests.{ltb-true, ltb-false}
 use Rattle.device.specs.declared.LineState.{LineState}
 use Rattle.bus.specs.Loops.{BusState, busState, turnsUpTo, copiedUpTo}
-use Rattle.bus.proofs.Idle.{turns-slot, turns-other, copied-slot, copied-other}
+use Rattle.bus.proofs.Idle.{turns-slot, copied-slot}
 use Rattle.bus.proofs.Laws.{turns-image-length, turns-lines-length}
 use Rattle.bus.proofs.Lines.{R, T-true, T-false}
 use Rattle.bus.proofs.Shapes.{step-event-shape as shape, slot-all-shape, turn-all-shape}
@@ -66,6 +65,10 @@ module _ {M : Type 1} (𝓤 : URA M) (H : Heap 𝓤) (A : Atoms 𝓤) (W : Given
       (s .image, (s .lines, (tt, (tt, tt)))) (done .image, (done .lines, (tt, (tt, tt))))
   both e i = (e i .image, (e i .lines, (tt, (tt, tt))))
 
+  both′ : {s : BusState} → s ≡ done → _≡_ {A = List ℕ × (List LineState × (Unit {0} × (Unit {0} × (Unit {0} × Unit {0}))))}
+      (s .image, (s .lines, (tt, (tt, (tt, tt))))) (done .image, (done .lines, (tt, (tt, (tt, tt)))))
+  both′ e i = (e i .image, (e i .lines, (tt, (tt, (tt, tt)))))
+
   -- the parameters, the sum and the test, then other locals; behind them the tokens, and the slices at their lists
   abbrev vs : ℕ → List Cell → List Cell
   vs c ws = has (val x) ∷ has (val x′) ∷ has (vint w64 n) ∷ has (vint w8 v) ∷ has (vbool t) ∷ has (vint w64 c)
@@ -104,8 +107,8 @@ module _ {M : Type 1} (𝓤 : URA M) (H : Heap 𝓤) (A : Atoms 𝓤) (W : Given
       let slot : v < 2 = ltb-true v 2 (T-true (ltb v 2) held) in
       again ! refl refl refl refl tt (refl, refl, refl) tt (room .0) $
       again ! refl refl refl refl tt (refl, refl, refl) tt (room′ .0) $
-      move ! (20 ∷ 18 ∷ []) $ lends ! tt u8 (κs .0) (qs .0) x (length im) refl (λ α β.
-      move ! (22 ∷ 21 ∷ []) $ lends ! tt R (κs .1 .0) (qs .1 .0) x′ (length ys) refl (λ α′ β′. lowers ! 6 18 $
+      move ! (19 ∷ 17 ∷ []) $ lends ! tt u8 (κs .0) (qs .0) x (length im) refl (λ α β.
+      move ! (21 ∷ 20 ∷ []) $ lends ! tt R (κs .1 .0) (qs .1 .0) x′ (length ys) refl (λ α′ β′. lowers ! 6 17 $
       asks-last ! 𝓣 slot-all-shape (slot-all.clauses 𝓤 H A mem run) known-slot-all (α ∷ [], (α′ ∷ [], tt))
       (fullShare, (fullShare, tt)) tt
       (under x β im, (under x′ β′ ys, (n, (t, tt))))
@@ -113,32 +116,32 @@ module _ {M : Type 1} (𝓤 : URA M) (H : Heap 𝓤) (A : Atoms 𝓤) (W : Given
       (λ r us. (r ≡ copiedUpTo 1 t n entry) × (busState (us .0) (us .1 .0) ≡ turnsUpTo 1 t n entry)) (λ r us. id⊢ 𝓤 _)
       cp (done .image, (done .lines, (tt, (tt, tt))))
       (λ r us e. (e .0 ∙ copied-slot v t n entry slot, both (e .1 ∙ turns-slot v t n entry slot)))
-      (also ! refl (also ! refl (also ! refl (also ! refl (no-more !))))) (21 ∷ 18 ∷ 22 ∷ 19 ∷ []) refl (λ c-is _.
-      move ! (20 ∷ 19 ∷ 22 ∷ []) $ backs ! tt u8 (κs .0) (qs .0) x (length im) refl room α β (done .image) $
-      move ! (21 ∷ 20 ∷ 22 ∷ []) $ backs ! tt R (κs .1 .0) (qs .1 .0) x′ (length ys) refl room′ α′ β′ (done .lines) $
-      move ! (3 ∷ 1 ∷ 2 ∷ 0 ∷ []) $ lowers ! 4 18 $ ends-renew ! refl (tt, record { fits = c-is .1 }) $ on _ (
+      (also ! refl (also ! refl (also ! refl (also ! refl (no-more !))))) (20 ∷ 17 ∷ 21 ∷ 18 ∷ []) refl (λ c-is _.
+      move ! (19 ∷ 18 ∷ 21 ∷ []) $ backs ! tt u8 (κs .0) (qs .0) x (length im) refl room α β (done .image) $
+      move ! (20 ∷ 19 ∷ 21 ∷ []) $ backs ! tt R (κs .1 .0) (qs .1 .0) x′ (length ys) refl room′ α′ β′ (done .lines) $
+      move ! (3 ∷ 1 ∷ 2 ∷ 0 ∷ []) $ lowers ! 4 17 $ ends-renew ! refl (tt, record { fits = c-is .1 }) $ on _ (
       leaves bs cp (has (ptr x) ∷ has (val x) ∷ has (ptr x′) ∷ has (val x′) ∷ []) c-is refl n-is v-is)))))
       -- another event
       (λ Q on failed.
       let other : 2 ≤ v = ltb-false v 2 (T-false (ltb v 2) failed) in
       again ! refl refl refl refl tt (refl, refl, refl) tt (room .0) $
       again ! refl refl refl refl tt (refl, refl, refl) tt (room′ .0) $
-      move ! (20 ∷ 18 ∷ []) $ lends ! tt u8 (κs .0) (qs .0) x (length im) refl (λ α β.
-      move ! (22 ∷ 21 ∷ []) $ lends ! tt R (κs .1 .0) (qs .1 .0) x′ (length ys) refl (λ α′ β′. lowers ! 6 18 $
+      move ! (19 ∷ 17 ∷ []) $ lends ! tt u8 (κs .0) (qs .0) x (length im) refl (λ α β.
+      move ! (21 ∷ 20 ∷ []) $ lends ! tt R (κs .1 .0) (qs .1 .0) x′ (length ys) refl (λ α′ β′. lowers ! 6 17 $
       asks-last ! 𝓣 turn-all-shape (turn-all.clauses 𝓤 H A mem run) known-turn-all (α ∷ [], (α′ ∷ [], tt))
       (fullShare, (fullShare, tt)) tt
-      (under x β im, (under x′ β′ ys, (n, (v, tt))))
-      (val x ∷ [], (val x′ ∷ [], (vint w64 n ∷ [], (vint w8 v ∷ [], tt)))) tt (n-is, (v-is, tt))
+      (under x β im, (under x′ β′ ys, (n, (v, (t, tt)))))
+      (val x ∷ [], (val x′ ∷ [], (vint w64 n ∷ [], (vint w8 v ∷ [], (vbool t ∷ [], tt))))) tt (n-is, (v-is, (refl, tt)))
       (factI 𝓤 _ (emp 𝓤) (few, other))
-      (λ r us. busState (us .0) (us .1 .0) ≡ turnsUpTo v true n entry) (λ r us. id⊢ 𝓤 _)
-      tt (done .image, (done .lines, (tt, (tt, tt))))
-      (λ r us e. (refl, both (e ∙ turns-other v t n entry other)))
-      (also ! refl (also ! refl (also ! refl (also ! refl (no-more !))))) (21 ∷ 18 ∷ 22 ∷ 19 ∷ []) refl (λ _ _.
-      move ! (20 ∷ 19 ∷ 22 ∷ []) $ backs ! tt u8 (κs .0) (qs .0) x (length im) refl room α β (done .image) $
-      move ! (21 ∷ 20 ∷ 22 ∷ []) $ backs ! tt R (κs .1 .0) (qs .1 .0) x′ (length ys) refl room′ α′ β′ (done .lines) $
-      move ! (3 ∷ 1 ∷ 2 ∷ 0 ∷ []) $ lowers ! 4 18 $ ends-new ! refl (tt, tt) $ on _ (
-      leaves bs 0 (void ∷ void ∷ void ∷ void ∷ has vunit ∷ has (ptr x) ∷ has (val x) ∷ has (ptr x′)
-      ∷ has (val x′) ∷ []) (refl, lit< tt) (sym (copied-other v t n entry other)) n-is v-is))))))
+      (λ r us. (r ≡ cp) × (busState (us .0) (us .1 .0) ≡ done)) (λ r us. id⊢ 𝓤 _)
+      cp (done .image, (done .lines, (tt, (tt, (tt, tt)))))
+      (λ r us e. (e .0, both′ (e .1)))
+      (also ! refl (also ! refl (also ! refl (also ! refl (also ! refl (no-more !)))))) (20 ∷ 17 ∷ 21 ∷ 18 ∷ []) refl (λ c-is _.
+      move ! (19 ∷ 18 ∷ 21 ∷ []) $ backs ! tt u8 (κs .0) (qs .0) x (length im) refl room α β (done .image) $
+      move ! (20 ∷ 19 ∷ 21 ∷ []) $ backs ! tt R (κs .1 .0) (qs .1 .0) x′ (length ys) refl room′ α′ β′ (done .lines) $
+      move ! (3 ∷ 1 ∷ 2 ∷ 0 ∷ []) $ lowers ! 4 17 $ ends-renew ! refl (tt, record { fits = c-is .1 }) $ on _ (
+      leaves bs cp (void ∷ void ∷ void ∷ void ∷ has (ptr x) ∷ has (val x) ∷ has (ptr x′)
+      ∷ has (val x′) ∷ []) c-is refl n-is v-is))))))
 
 pub step-event-spec : {M : Type 1} → stated.statement M
 unfolding code.routine tablesOf

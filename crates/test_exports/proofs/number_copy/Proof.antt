@@ -36,7 +36,7 @@ part-own-end c =
     let image : List ℕ = s .args .image .now in
     let short = image-most image (admitted _ _ _ _ (s .pre) .image-accepted) in
     subst (λ (l : List ℕ). length image ≤ length l) (sym (c .before .copy-out .ensures))
-    (subst (λ (m : ℕ). length image ≤ m) (sym (copy-length image 35778)) short)
+    (subst (λ (m : ℕ). length image ≤ m) (sym (copy-length image 65535)) short)
 
 number-own-requires : tie.Need-number-own-requires
 number-own-requires c κs =
@@ -63,7 +63,7 @@ returns c =
     c .before .before .before .number-own .ensures .1
     ∙ ap (λ (m : ℕ). told m (take (length image - 0) (drop 0 (copy .last .1 .0)))) (count .ensures)
     ∙ ap (λ (l : List ℕ). told (countOf image) (take (length image - 0) (drop 0 l))) (copy .ensures)
-    ∙ ap (told (countOf image)) (copy-holds image 35778 short)
+    ∙ ap (told (countOf image)) (copy-holds image 65535 short)
     ∙ numbers-shown image trace looked (s .pre)
 
 pub number-copy-spec : {M : Type 1} → statement M

@@ -1,0 +1,11 @@
+use Rattle.image.specs.Refusal.{imageTooLong}
+use mathlib.Core.Path.{refl}
+use Rattle.image.proofs.is_too_long.Statement.{statement}
+use Rattle.image.proofs.is_too_long.Tie as tie
+
+returns : tie.Need-returns
+unfolding imageTooLong
+returns c = refl
+
+pub is-too-long-spec : {M : Type 1} → statement M
+is-too-long-spec = tie.close (tie.spec returns)
