@@ -148,8 +148,8 @@ carefulAt trace answers kind body k = carefulBy (backFrom trace answers kind bod
 -- ---- one event on all devices
 
 abbrev pub seenSo : ℕ → Bool → Bool → Seen
-seenSo at-command completed careless =
-    record { at_command = at-command; completed = completed; careless = careless }
+seenSo commands completed careless =
+    record { commands = commands; completed = completed; careless = careless }
 
 abbrev pub nothingSeen : Seen
 nothingSeen = seenSo 0 false false
@@ -168,10 +168,10 @@ carelessAt trace answers image place k at same value =
 
 unfoldable pub seenBy : Doing → Bool → ℕ → (ℕ → Bool → Bool) → Seen → Seen
 seenBy Command last value careless seen =
-    seenSo (seen .at_command + 1) (seen .completed || last && (eqb value 0x0F || eqb value 0x55)) (seen .careless)
+    seenSo (seen .commands + 1) (seen .completed || last && (eqb value 0x0F || eqb value 0x55)) (seen .careless)
 seenBy Address last value careless seen = seen
 seenBy (Pattern at same) last value careless seen =
-    seenSo (seen .at_command) (seen .completed) (seen .careless || last && careless at same)
+    seenSo (seen .commands) (seen .completed) (seen .careless || last && careless at same)
 seenBy Other last value careless seen = seen
 
 -- Device i is looked at, in event k.
@@ -191,7 +191,7 @@ seenUpTo trace answers image lines k (suc i) =
 -- The verdict where the answer of event k is as recorded and no rule was broken before.
 unfoldable pub verdictHere : Bool → Seen → ℕ → Verdict
 verdictHere slot seen k =
-    cond (slot && (ltb 1 (seen .at_command) && seen .completed)) (Broken rules.Command k)
+    cond (slot && (ltb 1 (seen .commands) && seen .completed)) (Broken rules.Command k)
     (cond (slot && seen .careless) (Broken rules.Copy k) Accepted)
 
 unfoldable pub verdictKept : Rule → ℕ → Bool → ℕ → Verdict

@@ -75,7 +75,7 @@ struct Back {
 // Of the devices that were looked at in an event, so many are at the memory command, one of them has completed a write
 // or copy command, and one of them accepts a copy that was not read back.
 struct Seen {
-    at_command: usize,
+    commands: usize,
     completed: bool,
     careless: bool,
 }
@@ -128,7 +128,7 @@ fn memory_doing(m: MemoryStage) -> Doing
     }
 }
 
-fn doing(stage: Stage) -> Doing
+fn doing_of(stage: Stage) -> Doing
     ensures { λ r. ⌜ r ≡ doingOf stage ⌝ }
 {
     match stage {
@@ -165,7 +165,7 @@ fn mark_of(state: LineState, level: bool, k: usize) -> Mark
     let stage = transfer.stage;
     let last = !state.goes_on();
     let value = bits::shift_in(transfer.register, level);
-    mark_by(doing(stage), last, value, k)
+    mark_by(doing_of(stage), last, value, k)
 }
 
 fn is_marked(mark: Mark) -> bool
@@ -386,16 +386,16 @@ fn seen_with(
     state: LineState,
     seen: Seen,
 ) -> Seen
-    requires { ⌜ seen .at_command < 18446744073709551615 ⌝ }
+    requires { ⌜ seen .commands < 18446744073709551615 ⌝ }
     ensures { λ r. ⌜ r ≡ seenWith (now (trace .entry)) (now (answers .entry)) (now (image .entry)) k i state seen ⌝ }
 {
     let transfer = state.transfer;
     let stage = transfer.stage;
     let last = !state.goes_on();
     let value = bits::shift_in(transfer.register, level_at(answers, k));
-    match doing(stage) {
+    match doing_of(stage) {
         Doing::Command => Seen {
-            at_command: seen.at_command + 1,
+            commands: seen.commands + 1,
             completed: seen.completed | (last & is_write_or_copy(value)),
             careless: seen.careless,
         },
@@ -406,7 +406,7 @@ fn seen_with(
             }
             let careless = is_careless(trace, answers, image, i, k, at, same, value);
             Seen {
-                at_command: seen.at_command,
+                commands: seen.commands,
                 completed: seen.completed,
                 careless: seen.careless | careless,
             }
@@ -419,7 +419,7 @@ fn nothing_seen() -> Seen
     ensures { λ r. ⌜ r ≡ nothingSeen ⌝ }
 {
     Seen {
-        at_command: 0,
+        commands: 0,
         completed: false,
         careless: false,
     }
@@ -431,7 +431,7 @@ fn nothing_seen() -> Seen
 fn verdict_here(slot: bool, seen: Seen, k: usize) -> Verdict
     ensures { λ r. ⌜ r ≡ verdictHere slot seen k ⌝ }
 {
-    if slot & ((1 < seen.at_command) & seen.completed) {
+    if slot & ((1 < seen.commands) & seen.completed) {
         return Verdict::Broken {
             rule: Rule::Command,
             event: k,
