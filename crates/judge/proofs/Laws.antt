@@ -22,6 +22,11 @@ use Rattle.judge.specs.declared.Mark.{Mark}
 use Rattle.judge.specs.declared.Mark.the-variants.{Unmarked, Wrote, ReadAfter}
 use Rattle.judge.specs.declared.Back.{Back}
 use Rattle.judge.specs.Loops.{levelAt, markOf, isMarked, orLater, markOver, bitShown, bitsShown, readShown, laidUpTo}
+use Rattle.bus.specs.Loops.{lineAt}
+use Rattle.judge.specs.declared.Doing.{Doing}
+use Rattle.judge.specs.declared.Doing.the-variants.{Command, Address, Pattern, Other}
+use Rattle.judge.specs.declared.Seen.{Seen}
+use Rattle.judge.specs.Loops.{doingOf, seenBy, seenWith, seenUpTo}
 use Rattle.judge.specs.Loops.{looksBack, backAt, backFrom}
 
 -- ---- the mark of a transaction
@@ -254,3 +259,20 @@ module _ (image trace : List ℕ) (answers work lines : ℕ) where
       judge-chain e
       ∙ rest-chain (badTrace trace) (noFirstReset trace) (badPulse image trace) (ltb lines (countOf image)) (not (eqb answers (length trace))) (ltb work (length image))
       (sym (run-chain e) ∙ h)
+
+-- ---- one event on all devices
+
+doing-few : (doing : Doing) (last : Bool) (value : ℕ) (careless : ℕ → Bool → Bool) (seen : Seen) (i : ℕ) → seen .commands ≤ i
+    → seenBy doing last value careless seen .commands ≤ suc i
+unfolding seenBy
+doing-few Command last value careless seen i h = omega (arith, h)
+doing-few Address last value careless seen i h = omega (arith, h)
+doing-few (Pattern at same) last value careless seen i h = omega (arith, h)
+doing-few Other last value careless seen i h = omega (arith, h)
+
+-- of i devices no more than i are at the memory command
+pub seen-few : (trace answers image : List ℕ) (lines : List LineState) (k i : ℕ) → seenUpTo trace answers image lines k i .commands ≤ i
+unfolding seenUpTo seenWith
+seen-few trace answers image lines k zero = omega arith
+seen-few trace answers image lines k (suc i) =
+    doing-few (doingOf (lineAt lines i .transfer .stage)) _ _ _ (seenUpTo trace answers image lines k i) i (seen-few trace answers image lines k i)
