@@ -16,13 +16,14 @@ use Rattle.device.specs.Device.{stateAfterSlotAsIs}
 use Rattle.image.specs.Image.{countOf}
 use Rattle.image.specs.Refusal.{cause, firstCause, imageCauses, imageRefusal}
 use Rattle.bus.specs.Refusal.{badTrace, noFirstReset, badPulse, noRunRoom, runCauses, runRefusal}
-use Rattle.bus.proofs.Laws.{first-some, first-none, run-causes, admitted}
+use Rattle.bus.proofs.Laws.{first-some, first-none, run-causes, admitted, turns-image-length, turns-lines-length}
 use Rattle.judge.specs.Refusal.{noJudgeRoom, judgeCauses, judgeRefusal}
 use Rattle.judge.specs.declared.Mark.{Mark}
 use Rattle.judge.specs.declared.Mark.the-variants.{Unmarked, Wrote, ReadAfter}
 use Rattle.judge.specs.declared.Back.{Back}
 use Rattle.judge.specs.Loops.{levelAt, markOf, isMarked, orLater, markOver, bitShown, bitsShown, readShown, laidUpTo}
-use Rattle.bus.specs.Loops.{lineAt}
+use Rattle.bus.specs.Loops.{lineAt, levelOn, busState}
+use Rattle.judge.specs.Loops.{JudgeState, judgeEventAt, judgeEventsUpTo}
 use Rattle.judge.specs.declared.Doing.{Doing}
 use Rattle.judge.specs.declared.Doing.the-variants.{Command, Address, Pattern, Other}
 use Rattle.judge.specs.declared.Seen.{Seen}
@@ -276,3 +277,19 @@ unfolding seenUpTo seenWith
 seen-few trace answers image lines k zero = omega arith
 seen-few trace answers image lines k (suc i) =
     doing-few (doingOf (lineAt lines i .transfer .stage)) _ _ _ (seenUpTo trace answers image lines k i) i (seen-few trace answers image lines k i)
+
+-- ---- the events of a recording
+
+pub judge-work-length : (trace answers : List ℕ) (n k : ℕ) (s : JudgeState) → length (judgeEventsUpTo trace answers n k s .work) ≡ length (s .work)
+unfolding judgeEventsUpTo judgeEventAt
+judge-work-length trace answers n zero s = refl
+judge-work-length trace answers n (suc k) s =
+    let t = judgeEventsUpTo trace answers n k s in
+    turns-image-length (getD trace k 0) (levelOn (t .lines) n (getD trace k 0)) n (busState (t .work) (t .lines)) ∙ judge-work-length trace answers n k s
+
+pub judge-lines-length : (trace answers : List ℕ) (n k : ℕ) (s : JudgeState) → length (judgeEventsUpTo trace answers n k s .lines) ≡ length (s .lines)
+unfolding judgeEventsUpTo judgeEventAt
+judge-lines-length trace answers n zero s = refl
+judge-lines-length trace answers n (suc k) s =
+    let t = judgeEventsUpTo trace answers n k s in
+    turns-lines-length (getD trace k 0) (levelOn (t .lines) n (getD trace k 0)) n (busState (t .work) (t .lines)) ∙ judge-lines-length trace answers n k s

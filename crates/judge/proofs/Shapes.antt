@@ -73,3 +73,11 @@ judge-shape = record {
   kinds = shrK 0 tt u8 ∷ shrK 1 tt u8 ∷ shrK 2 tt u8 ∷ mutK 3 tt u8 ∷ mutK 4 tt R ∷ [];
   gives = verdict;
 }
+
+abbrev pub byte-at-shape : Shape
+byte-at-shape = record {
+  lifetimes = 1;
+  outlives = [];
+  kinds = shrK 0 tt u8 ∷ dataK (num w64) ∷ [];
+  gives = num w8;
+}

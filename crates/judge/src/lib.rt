@@ -593,7 +593,7 @@ fn judge_events(
     let mut verdict = accepted();
     let mut k: usize = 0;
     while k < trace.len() {
-        let byte = trace[k];
+        let byte = bits::byte_at(trace, k);
         let seen = look(trace, answers, work, lines, n, k);
         let result = bus::step(work, lines, n, byte);
         verdict = verdict_next(verdict, trace, answers, seen, k, result.level);

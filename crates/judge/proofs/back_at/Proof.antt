@@ -30,7 +30,7 @@ back-by-requires c κs = search needs
 -- src/lib.rt:294:1
 returns : tie.Need-returns
 unfolding backAt
-returns c = 
+returns c =
     let a = c .before .before .before .before .before .before .before .args in
     let here = eq-eqb _ _ (sym (c .before .before .before .byte-at .ensures) ∙ c .before .before .if1 .taken) in
     simp (here, ← add-one (a .j)) (c .back-by .ensures ∙ ap (backBy (a .answers .now) (a .body .now) (a .j) (a .back)) (c .before .mark-in .ensures))
@@ -38,7 +38,7 @@ returns c =
 -- src/lib.rt:294:1
 returns-2 : tie.Need-returns-2
 unfolding backAt
-returns-2 c = 
+returns-2 c =
     let here = ne-eqb _ _ (λ z. c .if1 .left (c .before .byte-at .ensures ∙ z)) in
     simp here
 

@@ -37,14 +37,14 @@ bit-shown-requires c κs = search needs
 
 -- src/lib.rt:220:13
 returns : tie.Need-returns Inv-loop μ-loop
-returns c = 
+returns c =
     let a = c .before .before .before .before .before .before .before .args in
     let l = c .before .before .before .before .loop in
     bits-stop (a .answers .now) (a .body .now) (a .end) (l .slot) (l .at) (l .left) (c .before .before .before .loop-test .taken) _ _ _ (c .before .before .bit-at .ensures) (c .before .bit-shown .ensures) (l .inv .1) (not-true _ (c .if1 .taken))
 
 -- src/lib.rt:222:9
 add-slot : tie.Need-add-slot Inv-loop μ-loop
-add-slot c = 
+add-slot c =
     let a = c .before .before .before .before .before .before .before .args in
     let l = c .before .before .before .before .loop in
     omega (arith, shown-before (a .answers .now) (a .end) (l .slot) _ (sym (c .before .bit-shown .ensures) ∙ not-false _ (c .if1 .left)), c .before .before .before .before .before .before .before .fits)
@@ -63,7 +63,7 @@ loop-less c = search needs
 
 -- src/lib.rt:217:5
 loop-again : tie.Need-loop-again Inv-loop μ-loop
-loop-again c = 
+loop-again c =
     let a = c .before .before .before .before .before .before .before .args in
     let l = c .before .before .before .before .loop in (
       omega (arith, l .inv .0, c .before .before .before .loop-test .taken),

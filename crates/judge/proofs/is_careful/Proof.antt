@@ -31,23 +31,23 @@ looks-back-requires c κs = search needs
 
 -- src/lib.rt:330:9
 sub-j : tie.Need-sub-j Inv-loop μ-loop
-sub-j c = 
+sub-j c =
     omega (arith, looks-positive _ _ (sym (c .before .looks-back .ensures) ∙ c .if1 .taken))
 
 -- src/lib.rt:331:9
 back-at-requires : tie.Need-back-at-requires Inv-loop μ-loop
-back-at-requires c κs = 
+back-at-requires c κs =
     let h = looks-positive _ _ (sym (c .before .looks-back .ensures) ∙ c .if1 .taken) in
     omega (arith, h, c .before .before .loop .inv .0, c .before .before .before .before .before .before .fits)
 
 -- src/lib.rt:329:5
 loop-less : tie.Need-loop-less Inv-loop μ-loop
-loop-less c = 
+loop-less c =
     omega (arith, looks-positive _ _ (sym (c .before .before .looks-back .ensures) ∙ c .before .if1 .taken))
 
 -- src/lib.rt:329:5
 loop-again : tie.Need-loop-again Inv-loop μ-loop
-loop-again c = 
+loop-again c =
     let a = c .before .before .before .before .before .before .before .args in
     let l = c .before .before .before .loop in (
       omega (arith, l .inv .0),
@@ -63,7 +63,7 @@ is-careful-by-requires c κs = search needs
 -- src/lib.rt:320:1
 returns : tie.Need-returns Inv-loop μ-loop
 unfolding carefulAt
-returns c = 
+returns c =
     let a = c .before .before .before .before .before .before .before .args in
     let l = c .before .before .before .loop in
     c .is-careful-by .ensures

@@ -17,19 +17,19 @@ place-of-requires c κs = search needs
 
 -- src/lib.rt:366:37
 sub-is-accepted : tie.Need-sub-is-accepted
-sub-is-accepted c = 
+sub-is-accepted c =
     let inside = inside-of _ _ _ (c .place-of .ensures) in
     omega arith
 
 -- src/lib.rt:366:37
 part-is-accepted-start : tie.Need-part-is-accepted-start
-part-is-accepted-start c = 
+part-is-accepted-start c =
     let inside = inside-of _ _ _ (c .place-of .ensures) in
     omega arith
 
 -- src/lib.rt:366:37
 part-is-accepted-end : tie.Need-part-is-accepted-end
-part-is-accepted-end c = 
+part-is-accepted-end c =
     let inside = inside-of _ _ _ (c .place-of .ensures) in
     omega arith
 
@@ -39,19 +39,19 @@ is-accepted-requires c κs = search needs
 
 -- src/lib.rt:367:50
 sub-is-careful : tie.Need-sub-is-careful
-sub-is-careful c = 
+sub-is-careful c =
     let inside = inside-of _ _ _ (c .before .before .before .place-of .ensures) in
     omega arith
 
 -- src/lib.rt:367:50
 part-is-careful-start : tie.Need-part-is-careful-start
-part-is-careful-start c = 
+part-is-careful-start c =
     let inside = inside-of _ _ _ (c .before .before .before .place-of .ensures) in
     omega arith
 
 -- src/lib.rt:367:50
 part-is-careful-end : tie.Need-part-is-careful-end
-part-is-careful-end c = 
+part-is-careful-end c =
     let inside = inside-of _ _ _ (c .before .before .before .place-of .ensures) in
     omega arith
 
@@ -62,14 +62,14 @@ is-careful-requires c κs = search needs
 -- src/lib.rt:367:9
 returns : tie.Need-returns
 unfolding carelessAt
-returns c = 
+returns c =
     let yes′ = sym (c .before .before .before .is-accepted .ensures) ∙ c .before .before .if1 .taken in
     rw (← c .before .before .before .before .before .place-of .ensures, yes′, c .is-careful .ensures)
 
 -- src/lib.rt:349:1
 returns-2 : tie.Need-returns-2
 unfolding carelessAt
-returns-2 c = 
+returns-2 c =
     let no = sym (c .before .is-accepted .ensures) ∙ c .if1 .left in
     rw (← c .before .before .before .place-of .ensures, no)
 

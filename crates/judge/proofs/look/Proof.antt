@@ -6,7 +6,7 @@
 use Rattle.walks.proofs.Walk.{_≡_, refl, ℕ, suc, _<_, _≤_, _+_, _*_, _^_, arith, lt-irrefl, [], _∷_, _++_, List, length}
 use Rattle.walks.proofs.Walk.{lit<, URA, false, named, w64, vint, vbool, SProp, emp, id⊢, Share, flft, Fun, factI, Lfts}
 use Rattle.walks.proofs.Walk.{Shares, givenOf, tables, tablesOf, Memory, Routine, Heap, Tables, Atoms, Given, Item, ‵, _$_}
-use Rattle.walks.proofs.Walk.{!, move, look, forget, lit, of-opd, no-more, bin, returns, Is, u8, u64, RefT, ShrSlice}
+use Rattle.walks.proofs.Walk.{ !, move, look, forget, lit, of-opd, no-more, bin, returns, Is, u8, u64, RefT, ShrSlice}
 use Rattle.walks.proofs.Walk.{Room, row, cited, Cell, void, has, Blocks, env, stand, quits, lowers, Walk, Met, enters, asks}
 use Rattle.walks.proofs.Walk.{finishes, proved, var, head, new, bump, counted-where, val, points, lands-new, also}
 use Rattle.walks.proofs.Walk.{lands-renew, Looked, opens-shr, closes-shr, sees, in-row, elem, goes-in, goes-out}

@@ -46,7 +46,7 @@ is-marked-requires c κs = search needs
 
 -- src/lib.rt:193:13
 returns : tie.Need-returns Inv-loop μ-loop
-returns c = 
+returns c =
     let a = c .before .before .before .before .before .before .before .before .before .args in
     let l = c .before .before .before .before .before .loop in
     mark-stops (a .answers .now) (a .kind) (a .body .now) (l .state) (l .k) (a .end) (c .before .before .before .before .loop-test .taken) _ _ _ (c .before .before .before .level-at .ensures) (c .before .before .mark-of .ensures) (l .inv) (sym (c .before .is-marked .ensures) ∙ c .if1 .taken)
@@ -65,14 +65,14 @@ loop-less c = search needs
 
 -- src/lib.rt:189:5
 loop-again : tie.Need-loop-again Inv-loop μ-loop
-loop-again c = 
+loop-again c =
     let a = c .before .before .before .before .before .before .before .before .before .before .args in
     let l = c .before .before .before .before .before .before .loop in
     mark-goes (a .answers .now) (a .kind) (a .body .now) (l .state) (l .k) (a .end) (c .before .before .before .before .before .loop-test .taken) _ _ _ (c .before .before .before .before .level-at .ensures) (c .before .before .before .mark-of .ensures) (l .inv) _ (sym (c .before .before .is-marked .ensures) ∙ c .before .if1 .left) (c .step-as-is .ensures)
 
 -- src/lib.rt:184:1
 returns-2 : tie.Need-returns-2 Inv-loop μ-loop
-returns-2 c = 
+returns-2 c =
     let a = c .before .before .before .before .before .args in
     let l = c .before .loop in
     sym (mark-end (a .answers .now) (a .kind) (a .body .now) (l .state) (l .k) (a .end) (c .loop-test .left)) ∙ l .inv

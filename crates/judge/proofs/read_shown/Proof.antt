@@ -22,7 +22,7 @@ use Rattle.judge.proofs.wanted_bytes.Reads as wanted-bytes-reads
 
 -- src/lib.rt:251:9
 returns : tie.Need-returns
-returns c = 
+returns c =
     let a = c .before .before .before .args in
     sym (read-short (a .answers .now) (a .body .now) (a .end) (a .k) (omega (arith, c .if1 .taken)))
 
@@ -32,7 +32,7 @@ sub-if2 c = search needs
 
 -- src/lib.rt:254:9
 returns-2 : tie.Need-returns-2
-returns-2 c = 
+returns-2 c =
     let a = c .before .before .before .before .args in
     sym (read-short (a .answers .now) (a .body .now) (a .end) (a .k) (omega (arith, c .if2 .taken, c .before .if1 .left)))
 
@@ -96,7 +96,7 @@ bits-shown-requires-2 c κs = search needs
 -- src/lib.rt:247:1
 returns-4 : tie.Need-returns-4
 unfolding readShown
-returns-4 c = 
+returns-4 c =
     let a = c .before .before .before .before .before .before .before .before .before .before .before .args in
     let first : (c .before .before .before .before .before .before .bits-shown .result) ≡ true = not-false _ (c .before .before .before .before .before .if3 .left) in
     let place = c .before .before .before .wide .ensures ∙ c .before .before .before .before .first-offset .ensures .0 in

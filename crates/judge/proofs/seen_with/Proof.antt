@@ -54,7 +54,7 @@ enum-known-at c = search needs
 -- src/lib.rt:405:17
 returns : tie.Need-returns
 unfolding seenWith seenBy
-returns c = 
+returns c =
     simp (sym (c .before .before .before .before .doing-of .ensures) ∙ c .before .before .at .given .1, sym (c .before .before .before .before .before .before .before .goes-on .ensures) ∙ not-false _ (not-true _ (c .if1 .taken)), or-false)
 
 -- src/lib.rt:407:17
@@ -68,25 +68,25 @@ enum-told-3 c = search needs
 -- src/lib.rt:380:1
 returns-2 : tie.Need-returns-2
 unfolding seenWith seenBy
-returns-2 c = 
+returns-2 c =
     simp (sym (c .before .before .before .before .before .doing-of .ensures) ∙ c .before .before .before .enum-told .given .1, c .before .is-write-or-copy .ensures, c .before .before .before .before .before .before .shift-in .ensures, c .before .before .before .before .before .before .before .level-at .ensures, c .before .before .before .before .before .before .before .before .goes-on .ensures)
 
 -- src/lib.rt:380:1
 returns-3 : tie.Need-returns-3
 unfolding seenWith seenBy
-returns-3 c = 
+returns-3 c =
     simp (sym (c .before .before .doing-of .ensures) ∙ c .enum-told2 .given .1)
 
 -- src/lib.rt:380:1
 returns-4 : tie.Need-returns-4
 unfolding seenWith seenBy
-returns-4 c = 
+returns-4 c =
     simp (sym (c .before .before .before .before .before .before .doing-of .ensures) ∙ c .before .before .before .before .at .given .1, sym (c .before .before .before .before .before .before .before .before .before .goes-on .ensures) ∙ not-true _ (not-false _ (c .before .before .if1 .left)), c .before .is-careless .ensures, c .before .before .before .before .before .before .before .shift-in .ensures, c .before .before .before .before .before .before .before .before .level-at .ensures)
 
 -- src/lib.rt:380:1
 returns-5 : tie.Need-returns-5
 unfolding seenWith seenBy
-returns-5 c = 
+returns-5 c =
     simp (sym (c .before .before .doing-of .ensures) ∙ c .enum-told3 .given .1)
 
 pub seen-with-spec : {M : Type 1} → statement M
