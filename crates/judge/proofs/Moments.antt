@@ -80,7 +80,7 @@ module _ (trace answers : List ℕ) (m : ℕ → Moment) where
   upFrom j zero = []
   upFrom j (suc c) = m j ∷ upFrom (suc j) c
 
-  up-append : (j c d : ℕ) → (upFrom j c ++ upFrom (j + c) d) ≡ upFrom j (c + d)
+  pub up-append : (j c d : ℕ) → (upFrom j c ++ upFrom (j + c) d) ≡ upFrom j (c + d)
   unfolding upFrom
   up-append j zero d =
       let e : j + 0 ≡ j = omega arith in
