@@ -147,7 +147,7 @@ both-true : (x y : Bool) → (x && y) ≡ true → (x ≡ true) × (y ≡ true)
 both-true true y e = (refl, e)
 both-true false y e = absurd (true≢false (sym e))
 
-careless-stage : (stage : Stage) (kind : Kind) (register left : ℕ) → stageRange stage kind register left ≡ true → (last : Bool) (value : ℕ) (body : List ℕ) (careful shown : Bool)
+pub careless-stage : (stage : Stage) (kind : Kind) (register left : ℕ) → stageRange stage kind register left ≡ true → (last : Bool) (value : ℕ) (body : List ℕ) (careful shown : Bool)
     → (isSram kind ≡ true → careful ≡ shown)
     → carelessBy (doingOf stage) last (λ at same. patternAccepted at same value body && not careful) ≡ ((last && isMade (stageCopy stage kind value body)) && not shown)
 unfolding doingOf memoryDoing stageCopy memoryCopy stageRange memoryRange isMade
@@ -277,7 +277,7 @@ no-slot-reset : isSlot Reset ≡ false
 unfolding isSlot
 no-slot-reset = refl
 
-range-stage : (d : Device) → InRange d → stageRange (d .state .transfer .stage) (d .kind) (d .state .transfer .register) (d .state .transfer .left) ≡ true
+pub range-stage : (d : Device) → InRange d → stageRange (d .state .transfer .stage) (d .kind) (d .state .transfer .register) (d .state .transfer .left) ≡ true
 unfolding lineStateInRange
 range-stage d r = both-true (eqb (length (d .body)) (bodySize (d .kind))) _ r .1
 
