@@ -9,7 +9,7 @@ use native.Mathlib.Nat.{eq-or-lt-of-le}
 use lib.ListN.{length, getD, set, take, drop, length-map, replicate, take-append-drop}
 use lib.Seq.{length-take-le, take-suc, drop-cons, getD-at, set-at, append-snoc, take-length}
 use lib.Dec.{T, eqb, ltb}
-use borrow.Author.Tests.{eqb-true, eq-eqb, lt-ltb, le-ltb, not-true, not-false}
+use borrow.Author.Tests.{eqb-true, ltb-false, lt-ltb, not-false}
 use Rattle.bits.specs.Bit.{levelByte}
 use Rattle.kind.specs.declared.Kind.{Kind}
 use Rattle.kind.specs.declared.Kind.the-variants as kinds
@@ -166,8 +166,8 @@ module _ (image trace answers rest : List ℕ) (tail : List LineState) (known : 
   abbrev Q : ℕ → List ℕ
   Q k = imageOf image known (es k) ++ rest
 
-  abbrev lines : ℕ → List LineState
-  lines k = statesOf (es k) ++ tail
+  abbrev Ls : ℕ → List LineState
+  Ls k = statesOf (es k) ++ tail
 
   stand : (k : ℕ) → Stand image 0 (es k)
   stand k = stand-same image 0 (run-same (take k trace) ds) (waiting-stands image known)
@@ -248,7 +248,7 @@ module _ (image trace answers rest : List ℕ) (tail : List LineState) (known : 
 
     module _ (slot : isSlot (eventOf (getD trace k 0)) ≡ true) where
       one : (i : ℕ) → i < n → (seen : Seen)
-          → seenWith trace answers (Q k) k i (lineAt (lines k) i) seen
+          → seenWith trace answers (Q k) k i (lineAt (Ls k) i) seen
           ≡ plus seen (atMemoryCommand (M i .device)) (completes 0x0F (M i) || completes 0x55 (M i)) (isCopy i)
       unfolding seenWith carelessAt
       one i h seen =
@@ -273,10 +273,202 @@ module _ (image trace answers rest : List ℕ) (tail : List LineState) (known : 
           (sym (accepts-is (M i) slot ok) z && not (shownSinceWrite (wantedBits (d .body)) (momentsOf (take k trace) ds i))))
 
       seen-is : (i : ℕ) → i ≤ n
-          → seenUpTo trace answers (Q k) (lines k) k i
+          → seenUpTo trace answers (Q k) (Ls k) k i
           ≡ seenSo (countBelow i (λ j. atMemoryCommand (M j .device))) (someBelow i (λ j. completes 0x0F (M j) || completes 0x55 (M j))) (someBelow i isCopy)
       unfolding seenUpTo countBelow someBelow
       seen-is zero h = refl
       seen-is (suc i) h =
-          ap (seenWith trace answers (Q k) k i (lineAt (lines k) i)) (seen-is i (omega (arith, h)))
+          ap (seenWith trace answers (Q k) k i (lineAt (Ls k) i)) (seen-is i (omega (arith, h)))
           ∙ one i h (seenSo (countBelow i (λ j. atMemoryCommand (M j .device))) (someBelow i (λ j. completes 0x0F (M j) || completes 0x55 (M j))) (someBelow i isCopy))
+
+    -- an event that is not a slot breaks neither B nor C
+    no-completes : (command i : ℕ) → isSlot (eventOf (getD trace k 0)) ≡ false → completes command (M i) ≡ false
+    unfolding completes
+    no-completes command i e = rw e
+
+    no-copy : (i : ℕ) → isSlot (eventOf (getD trace k 0)) ≡ false → isCopy i ≡ false
+    unfolding acceptsCopy
+    no-copy i e = rw e
+
+    no-b : isSlot (eventOf (getD trace k 0)) ≡ false → breaksB trace ds k ≡ false
+    unfolding breaksB
+    no-b e =
+        ap (λ (b : Bool). ltb 1 (countBelow (length ds) (λ i. atMemoryCommand (M i .device))) && b)
+        (some-false (λ i. completes 0x0F (M i) || completes 0x55 (M i)) (λ i. (λ z. no-completes 0x0F i e z || no-completes 0x55 i e z)) (length ds))
+        ∙ and-false (ltb 1 (countBelow (length ds) (λ i. atMemoryCommand (M i .device))))
+      where
+        and-false : (a : Bool) → (a && false) ≡ false
+        and-false true = refl
+        and-false false = refl
+
+    no-c : isSlot (eventOf (getD trace k 0)) ≡ false → breaksC trace ds k ≡ false
+    unfolding breaksC
+    no-c e = some-false isCopy (λ i. no-copy i e) (length ds)
+
+    b-is : breaksB trace ds k ≡ (ltb 1 (countBelow n (λ i. atMemoryCommand (M i .device))) && someBelow n (λ i. completes 0x0F (M i) || completes 0x55 (M i)))
+    unfolding breaksB
+    b-is = ap (λ (x : ℕ). ltb 1 (countBelow x (λ i. atMemoryCommand (M i .device))) && someBelow x (λ i. completes 0x0F (M i) || completes 0x55 (M i))) all
+
+    c-is : breaksC trace ds k ≡ someBelow n isCopy
+    unfolding breaksC
+    c-is = ap (λ (x : ℕ). someBelow x isCopy) all
+
+    here-by : (x : Bool) → isSlot (eventOf (getD trace k 0)) ≡ x
+        → verdictHere x (seenUpTo trace answers (Q k) (Ls k) k n) k
+        ≡ verdictBy none (cond (breaksB trace ds k || breaksC trace ds k) (at k) none) (breaksB trace ds)
+    unfolding verdictHere
+    here-by true e =
+        ap (λ (s : Seen). verdictHere true s k) (seen-is e n (omega arith))
+        ∙ (λ i. cond (true && sym b-is i) (Broken rules.Command k) (cond (true && sym c-is i) (Broken rules.Copy k) Accepted))
+        ∙ here-cases (breaksB trace ds) k (breaksB trace ds k) (breaksC trace ds k) refl
+    here-by false e =
+        here-cases (breaksB trace ds) k false false (no-b e)
+        ∙ (λ i. verdictBy none (cond (sym (no-b e) i || sym (no-c e) i) (at k) none) (breaksB trace ds))
+
+    here-is : verdictHere (ltb (getD trace k 0) 2) (seenUpTo trace answers (Q k) (Ls k) k n) k
+        ≡ verdictBy none (cond (breaksB trace ds k || breaksC trace ds k) (at k) none) (breaksB trace ds)
+    here-is =
+        ap (λ (x : Bool). verdictHere x (seenUpTo trace answers (Q k) (Ls k) k n) k) (sym (slot-event (getD trace k 0)))
+        ∙ here-by (isSlot (eventOf (getD trace k 0))) refl
+
+  -- ---- the events of the trace
+
+  -- the verdict after the first k events
+  abbrev Vd : ℕ → Verdict
+  Vd k = verdictBy (firstBelow k (breaksA trace answers ds)) (firstBelow k (λ j. breaksB trace ds j || breaksC trace ds j)) (breaksB trace ds)
+
+  verdict-is : (k : ℕ) → k < length trace
+      → verdictNext (Vd k) (agreesAt trace answers k (L k)) (ltb (getD trace k 0) 2) (seenUpTo trace answers (Q k) (Ls k) k n) k ≡ Vd (suc k)
+  unfolding firstBelow
+  verdict-is k h =
+      ap (λ (x : Bool). verdictNext (Vd k) x (ltb (getD trace k 0) 2) (seenUpTo trace answers (Q k) (Ls k) k n) k) (agrees-is k h)
+      ∙ verdict-step (firstBelow k (breaksA trace answers ds)) (firstBelow k (λ j. breaksB trace ds j || breaksC trace ds j)) (breaksA trace answers ds k)
+      (breaksB trace ds k || breaksC trace ds k) (breaksB trace ds) (ltb (getD trace k 0) 2) (seenUpTo trace answers (Q k) (Ls k) k n) k
+      (λ none-before agrees. here-is k h (λ j below.
+      ⊎-elim (λ (s : j ≡ k). level-agrees j (omega (arith, s, h)) (ap (breaksA trace answers ds) s ∙ agrees))
+      (λ (l : j < k). level-agrees j (omega (arith, l, h)) (none-below (breaksA trace answers ds) k none-before j l)) (eq-or-lt-of-le below)))
+
+  after : (k : ℕ) → k < length trace
+      → turnsUpTo (getD trace k 0) (L k) n (busState (Q k) (Ls k)) ≡ busState (Q (suc k)) (Ls (suc k))
+  after k h =
+      let byte = getD trace k 0 in
+      ap (λ (x : ℕ). turnsUpTo byte (L k) x (busState (Q k) (Ls k))) (sym (all-at k))
+      ∙ turns-q image known rest tail (es k) (stand k) (all-at k) (in-all k) byte (L k) (length (es k)) (omega arith)
+      ∙ ap (λ (s : BusState). busState (s .image ++ rest) (s .lines)) (turned-is image known tail (es k) (stand k) (all-at k) (in-all k) byte (L k))
+      ∙ ap (λ (l : List Device). busState (imageOf image known l ++ rest) (statesOf l ++ tail)) (sym (devices-next trace ds k h))
+
+  states-are : (k : ℕ) → k ≤ length trace
+      → judgeEventsUpTo trace answers n k (judgeState Accepted (Q 0) (Ls 0)) ≡ judgeState (Vd k) (Q k) (Ls k)
+  unfolding judgeEventsUpTo judgeEventAt firstBelow verdictBy
+  states-are zero h = refl
+  states-are (suc k) h =
+      let byte = getD trace k 0 in
+      ap (judgeEventAt trace answers n k) (states-are k (omega (arith, h)))
+      ∙ ap (λ (l : Bool). judgeState (verdictNext (Vd k) (agreesAt trace answers k l) (ltb byte 2) (seenUpTo trace answers (Q k) (Ls k) k n) k)
+      (turnsUpTo byte l n (busState (Q k) (Ls k)) .image) (turnsUpTo byte l n (busState (Q k) (Ls k)) .lines))
+      (level-is image known tail (es k) (stand k) (all-at k) (in-all k) byte)
+      ∙ (λ i. judgeState (verdict-is k h i) (after k h i .image) (after k h i .lines))
+
+  all-judged : judgeEventsUpTo trace answers n (length trace) (judgeState Accepted (Q 0) (Ls 0))
+      ≡ judgeState (verdictOf trace answers ds) (imageOf image known (runTrace trace ds .devices) ++ rest) (statesOf (runTrace trace ds .devices) ++ tail)
+  unfolding verdictOf
+  all-judged =
+      states-are (length trace) (omega arith)
+      ∙ ap (λ (t : List ℕ). judgeState (Vd (length trace)) (imageOf image known (runTrace t ds .devices) ++ rest) (statesOf (runTrace t ds .devices) ++ tail)) (take-length trace)
+
+  start-work : Q 0 ≡ image ++ rest
+  unfolding runTrace
+  start-work = ap (λ (l : List ℕ). l ++ rest) (waiting-image image known)
+
+  start-lines : Ls 0 ≡ replicate n waitingState ++ tail
+  unfolding runTrace
+  start-lines = ap (λ (l : List LineState). l ++ tail) (waiting-states image known)
+
+-- ---- the judge
+
+laid-is : (k : ℕ) (image work : List ℕ) → k ≤ length image → k ≤ length work → laidUpTo k image work ≡ take k image ++ drop k work
+unfolding laidUpTo
+laid-is zero image work h g = refl
+laid-is (suc k) image work h g =
+    let v = getD image k 0 in
+    ap (λ (l : List ℕ). set l k v) (laid-is k image work (omega (arith, h)) (omega (arith, g)) ∙ ap (λ (l : List ℕ). take k image ++ l) (drop-cons work k 0 g))
+    ∙ set-at (take k image) (getD work k 0) (drop (suc k) work) v k (length-take-le k image (omega (arith, h)))
+    ∙ sym (append-snoc (take k image) v (drop (suc k) work))
+    ∙ ap (λ (l : List ℕ). l ++ drop (suc k) work) (sym (take-suc image k 0 h))
+
+-- what the loops make of work space and line states
+abbrev pub judged : List ℕ → List ℕ → List ℕ → List ℕ → List LineState → JudgeState
+judged image trace answers work lines =
+    judgeEventsUpTo trace answers (countOf image) (length trace)
+    (judgeState Accepted (laidUpTo (length image) image work) (filledUpTo (fewerOf (countOf image) (length lines)) waitingState lines))
+
+-- what is not refused: what the run admits, with as many answers and room for the image
+pub record Admits (image trace : List ℕ) (answers work lines : ℕ) : Type 0 where
+  pub run : Admitted image trace (length trace) lines
+  pub as-many : answers ≡ length trace
+  pub work-room : length image ≤ work
+
+seven : (p q : Bool) → _≡_ {A = ℕ} (cond (not p) 7 (cond q 7 0)) 0 → (p ≡ true) × (q ≡ false)
+seven true true e = absurd (omega (arith, e))
+seven true false e = (refl, refl)
+seven false q e = absurd (omega (arith, e))
+
+pub admits : (image trace : List ℕ) (answers work lines : ℕ) → judgeRefusal image trace answers work lines ≡ 0 → Admits image trace answers work lines
+admits image trace answers work lines e =
+    let r : runRefusal image trace (length trace) lines ≡ 0 = zero-or (runRefusal image trace (length trace) lines) (λ nz. absurd (nz (sym (refused-as-run image trace answers work lines nz) ∙ e))) in
+    let s = seven (eqb answers (length trace)) (ltb work (length image)) (sym (judged-room image trace answers work lines r) ∙ e) in
+    record { run = admitted image trace (length trace) lines r; as-many = eqb-true answers (length trace) (s .0); work-room = ltb-false work (length image) (s .1) }
+  where
+    zero-or : (m : ℕ) → ((m ≡ 0 → ⊥) → m ≡ 0) → m ≡ 0
+    zero-or zero f = refl
+    zero-or (suc m) f = f (λ z. absurd (omega (arith, z)))
+
+-- is what the judge is to answer and leave, where the recording is not refused
+pub judge-shown : (image trace answers work : List ℕ) (lines : List LineState) → judgeRefusal image trace (length answers) (length work) (length lines) ≡ 0
+    → judgeOutcome (judged image trace answers work lines .verdict) (judged image trace answers work lines .work) (judged image trace answers work lines .lines)
+    ≡ judgeOf image trace answers work lines
+unfolding judgeOf judgeAt leftByJudge
+judge-shown image trace answers work lines e =
+    let has = admits image trace (length answers) (length work) (length lines) e in
+    let known = accepted-known image (has .run .image-accepted) in
+    let n = countOf image in
+    let tail = drop n lines in
+    let rest = drop (length image) work in
+    let good = has .run .trace-good in
+    let first = has .run .reset-first in
+    let pulse = has .run .pulses-good in
+    let len = has .as-many in
+    let began : laidUpTo (length image) image work ≡ Q image trace answers rest tail known good first pulse len 0 =
+    laid-is (length image) image work (omega arith) (has .work-room) ∙ ap (λ (l : List ℕ). l ++ rest) (take-length image)
+    ∙ sym (start-work image trace answers rest tail known good first pulse len) in
+    let stood : filledUpTo (fewerOf n (length lines)) waitingState lines ≡ Ls image trace answers rest tail known good first pulse len 0 =
+    ap (λ (m : ℕ). filledUpTo m waitingState lines) (fewer-first n (length lines) (has .run .lines-room))
+    ∙ filled-is n waitingState lines (has .run .lines-room)
+    ∙ sym (start-lines image trace answers rest tail known good first pulse len) in
+    let done = (λ i. judgeEventsUpTo trace answers n (length trace) (judgeState Accepted (began i) (stood i)))
+    ∙ all-judged image trace answers rest tail known good first pulse len in
+    (λ i. judgeOutcome (done i .verdict) (done i .work) (done i .lines))
+    ∙ ap (λ (m : ℕ). judgeAt m image trace answers work lines) (sym e)
+
+-- what is refused changes nothing
+refused-at : (m : ℕ) (image trace answers work : List ℕ) (lines : List LineState) → T (not (eqb m 0)) → judgeOutcome (Refused m) work lines ≡ judgeAt m image trace answers work lines
+unfolding judgeAt
+refused-at zero image trace answers work lines t = absurd t
+refused-at (suc m) image trace answers work lines t = refl
+
+pub judge-refused : (image trace answers work : List ℕ) (lines : List LineState)
+    → T (not (eqb (judgeRefusal image trace (length answers) (length work) (length lines)) 0))
+    → judgeOutcome (Refused (judgeRefusal image trace (length answers) (length work) (length lines))) work lines ≡ judgeOf image trace answers work lines
+unfolding judgeOf
+judge-refused image trace answers work lines t =
+    refused-at (judgeRefusal image trace (length answers) (length work) (length lines)) image trace answers work lines t
+
+-- what the judge left, as one equation and as an equation for each thing
+pub judge-leaves : (left : JudgeOutcome) (verdict : Verdict) (work : List ℕ) (lines : List LineState)
+    → judgeOutcome verdict work lines ≡ left → JudgeLeaves left verdict work lines
+judge-leaves left verdict work lines e =
+    record {
+      verdict-is = ap (λ (o : JudgeOutcome). o .verdict) e;
+      work-is = ap (λ (o : JudgeOutcome). o .work) e;
+      lines-are = ap (λ (o : JudgeOutcome). o .lines) e;
+    }
