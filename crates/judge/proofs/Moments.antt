@@ -201,9 +201,9 @@ module _ (trace answers : List ℕ) (m : ℕ → Moment) where
           let f = fw refl in (
             ap (λ (x : Bool). x || someWrite (upFrom (suc j) c ++ rest)) ew,
             λ none.
-              let quiet : someWrite (upFrom (suc j) c ++ rest) ≡ false = no-write-append (upFrom (suc j) c) rest (f .0) none in
-              (λ i. ew i && (not (quiet i) && f .1 i) || no-write-none bits (upFrom (suc j) c ++ rest) quiet i)
-              ∙ or-false (someReadShows bits rest),
+                let quiet : someWrite (upFrom (suc j) c ++ rest) ≡ false = no-write-append (upFrom (suc j) c) rest (f .0) none in
+                (λ i. ew i && (not (quiet i) && f .1 i) || no-write-none bits (upFrom (suc j) c ++ rest) quiet i)
+                ∙ or-false (someReadShows bits rest),
           )
       turn false true j c ew er fw fr mark s =
           let f = fr refl in

@@ -5,29 +5,19 @@ use Rattle.judge.specs.Loops.{backAt, backBy}
 use borrow.Author.Needs.{needs}
 use Rattle.judge.proofs.back_at.Statement.{statement}
 use Rattle.judge.proofs.back_at.Tie as tie
-use Rattle.judge.proofs.back_at.Reads as reads
-use Rattle.judge.proofs.back_at.Lts as lts
-use Rattle.bits.proofs.byte_at.Reads as byte-at-reads
-use Rattle.judge.proofs.back_by.Reads as back-by-reads
-use Rattle.judge.proofs.mark_in.Reads as mark-in-reads
 
--- src/lib.rt:298:8
 byte-at-requires : tie.Need-byte-at-requires
 byte-at-requires c κs = search needs
 
--- src/lib.rt:299:49
 add-mark-in : tie.Need-add-mark-in
 add-mark-in c = search needs
 
--- src/lib.rt:299:13
 mark-in-requires : tie.Need-mark-in-requires
 mark-in-requires c κs = search needs
 
--- src/lib.rt:300:9
 back-by-requires : tie.Need-back-by-requires
 back-by-requires c κs = search needs
 
--- src/lib.rt:294:1
 returns : tie.Need-returns
 unfolding backAt
 returns c =
@@ -35,7 +25,6 @@ returns c =
     let here = eq-eqb _ _ (sym (c .before .before .before .byte-at .ensures) ∙ c .before .before .if1 .taken) in
     simp (here, ← add-one (a .j)) (c .back-by .ensures ∙ ap (backBy (a .answers .now) (a .body .now) (a .j) (a .back)) (c .before .mark-in .ensures))
 
--- src/lib.rt:294:1
 returns-2 : tie.Need-returns-2
 unfolding backAt
 returns-2 c =

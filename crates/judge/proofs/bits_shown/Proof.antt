@@ -11,10 +11,6 @@ use Prim.Native.Nat.{_+_, _-_}
 use mathlib.Core.Path.{_≡_, sym, _∙_}
 use Rattle.judge.proofs.bits_shown.Statement.{statement}
 use Rattle.judge.proofs.bits_shown.Tie as tie
-use Rattle.judge.proofs.bits_shown.Reads as reads
-use Rattle.judge.proofs.bits_shown.Lts as lts
-use Rattle.bits.proofs.bit_at.Reads as bit-at-reads
-use Rattle.judge.proofs.bit_shown.Reads as bit-shown-reads
 
 abbrev Inv-loop : tie.InvT-loop
 Inv-loop answers body end k place count slot₀ at₀ left₀ slot at left = (at + left ≡ place + count) × (bitsShown answers body end slot at left ≡ bitsShown answers body end k place count)
@@ -22,46 +18,37 @@ Inv-loop answers body end k place count slot₀ at₀ left₀ slot at left = (at
 abbrev μ-loop : tie.MeasureT-loop
 μ-loop answers body end k place count slot₀ at₀ left₀ slot at left = left
 
--- src/lib.rt:217:5
 loop-holds : tie.Need-loop-holds Inv-loop μ-loop
 unfolding bitsShown bitAt bitShown
 loop-holds c = (refl, refl)
 
--- src/lib.rt:218:13
 bit-at-requires : tie.Need-bit-at-requires Inv-loop μ-loop
 bit-at-requires c κs = search needs
 
--- src/lib.rt:219:13
 bit-shown-requires : tie.Need-bit-shown-requires Inv-loop μ-loop
 bit-shown-requires c κs = search needs
 
--- src/lib.rt:220:13
 returns : tie.Need-returns Inv-loop μ-loop
 returns c =
     let a = c .before .before .before .before .before .before .before .args in
     let l = c .before .before .before .before .loop in
     bits-stop (a .answers .now) (a .body .now) (a .end) (l .slot) (l .at) (l .left) (c .before .before .before .loop-test .taken) _ _ _ (c .before .before .bit-at .ensures) (c .before .bit-shown .ensures) (l .inv .1) (not-true _ (c .if1 .taken))
 
--- src/lib.rt:222:9
 add-slot : tie.Need-add-slot Inv-loop μ-loop
 add-slot c =
     let a = c .before .before .before .before .before .before .before .args in
     let l = c .before .before .before .before .loop in
     omega (arith, shown-before (a .answers .now) (a .end) (l .slot) _ (sym (c .before .bit-shown .ensures) ∙ not-false _ (c .if1 .left)), c .before .before .before .before .before .before .before .fits)
 
--- src/lib.rt:223:9
 add-at : tie.Need-add-at Inv-loop μ-loop
 add-at c = search needs
 
--- src/lib.rt:224:9
 sub-left : tie.Need-sub-left Inv-loop μ-loop
 sub-left c = search needs
 
--- src/lib.rt:217:5
 loop-less : tie.Need-loop-less Inv-loop μ-loop
 loop-less c = search needs
 
--- src/lib.rt:217:5
 loop-again : tie.Need-loop-again Inv-loop μ-loop
 loop-again c =
     let a = c .before .before .before .before .before .before .before .args in
@@ -70,7 +57,6 @@ loop-again c =
       bits-go (a .answers .now) (a .body .now) (a .end) (l .slot) (l .at) (l .left) (c .before .before .before .loop-test .taken) _ _ _ (c .before .before .bit-at .ensures) (c .before .bit-shown .ensures) (l .inv .1) (not-false _ (c .if1 .left)),
     )
 
--- src/lib.rt:210:1
 returns-2 : tie.Need-returns-2 Inv-loop μ-loop
 unfolding bitsShown bitAt bitShown
 returns-2 c = let z : c .before .loop .left ≡ 0 = omega arith in rw z at (c .before .loop .inv .1)

@@ -9,11 +9,6 @@ use Rattle.judge.specs.declared.Back.{Back}
 use mathlib.Core.Path.{_≡_, sym, ap, _∙_}
 use Rattle.judge.proofs.is_careful.Statement.{statement}
 use Rattle.judge.proofs.is_careful.Tie as tie
-use Rattle.judge.proofs.is_careful.Reads as reads
-use Rattle.judge.proofs.is_careful.Lts as lts
-use Rattle.judge.proofs.back_at.Reads as back-at-reads
-use Rattle.judge.proofs.is_careful_by.Reads as is-careful-by-reads
-use Rattle.judge.proofs.looks_back.Reads as looks-back-reads
 
 abbrev Inv-loop : tie.InvT-loop
 Inv-loop trace answers kind body k back₀ j₀ back j = (j ≤ k) × (backFrom trace answers kind body j back ≡ backFrom trace answers kind body k (backTo k false false))
@@ -21,31 +16,25 @@ Inv-loop trace answers kind body k back₀ j₀ back j = (j ≤ k) × (backFrom 
 abbrev μ-loop : tie.MeasureT-loop
 μ-loop trace answers kind body k back₀ j₀ back j = j
 
--- src/lib.rt:329:5
 loop-holds : tie.Need-loop-holds Inv-loop μ-loop
 loop-holds c = (omega arith, refl)
 
--- src/lib.rt:329:11
 looks-back-requires : tie.Need-looks-back-requires Inv-loop μ-loop
 looks-back-requires c κs = search needs
 
--- src/lib.rt:330:9
 sub-j : tie.Need-sub-j Inv-loop μ-loop
 sub-j c =
     omega (arith, looks-positive _ _ (sym (c .before .looks-back .ensures) ∙ c .if1 .taken))
 
--- src/lib.rt:331:9
 back-at-requires : tie.Need-back-at-requires Inv-loop μ-loop
 back-at-requires c κs =
     let h = looks-positive _ _ (sym (c .before .looks-back .ensures) ∙ c .if1 .taken) in
     omega (arith, h, c .before .before .loop .inv .0, c .before .before .before .before .before .before .fits)
 
--- src/lib.rt:329:5
 loop-less : tie.Need-loop-less Inv-loop μ-loop
 loop-less c =
     omega (arith, looks-positive _ _ (sym (c .before .before .looks-back .ensures) ∙ c .before .if1 .taken))
 
--- src/lib.rt:329:5
 loop-again : tie.Need-loop-again Inv-loop μ-loop
 loop-again c =
     let a = c .before .before .before .before .before .before .before .args in
@@ -56,11 +45,9 @@ loop-again c =
           ∙ l .inv .1,
     )
 
--- src/lib.rt:333:5
 is-careful-by-requires : tie.Need-is-careful-by-requires Inv-loop μ-loop
 is-careful-by-requires c κs = search needs
 
--- src/lib.rt:320:1
 returns : tie.Need-returns Inv-loop μ-loop
 unfolding carefulAt
 returns c =

@@ -5,68 +5,52 @@ use Rattle.bus.proofs.Laws.{inside-of}
 use borrow.Author.Needs.{needs}
 use Rattle.judge.proofs.is_careless.Statement.{statement}
 use Rattle.judge.proofs.is_careless.Tie as tie
-use Rattle.judge.proofs.is_careless.Reads as reads
-use Rattle.judge.proofs.is_careless.Lts as lts
-use Rattle.bus.proofs.place_of.Reads as place-of-reads
-use Rattle.judge.proofs.is_accepted.Reads as is-accepted-reads
-use Rattle.judge.proofs.is_careful.Reads as is-careful-reads
 
--- src/lib.rt:362:9
 place-of-requires : tie.Need-place-of-requires
 place-of-requires c κs = search needs
 
--- src/lib.rt:366:37
 sub-is-accepted : tie.Need-sub-is-accepted
 sub-is-accepted c =
     let inside = inside-of _ _ _ (c .place-of .ensures) in
     omega arith
 
--- src/lib.rt:366:37
 part-is-accepted-start : tie.Need-part-is-accepted-start
 part-is-accepted-start c =
     let inside = inside-of _ _ _ (c .place-of .ensures) in
     omega arith
 
--- src/lib.rt:366:37
 part-is-accepted-end : tie.Need-part-is-accepted-end
 part-is-accepted-end c =
     let inside = inside-of _ _ _ (c .place-of .ensures) in
     omega arith
 
--- src/lib.rt:366:8
 is-accepted-requires : tie.Need-is-accepted-requires
 is-accepted-requires c κs = search needs
 
--- src/lib.rt:367:50
 sub-is-careful : tie.Need-sub-is-careful
 sub-is-careful c =
     let inside = inside-of _ _ _ (c .before .before .before .place-of .ensures) in
     omega arith
 
--- src/lib.rt:367:50
 part-is-careful-start : tie.Need-part-is-careful-start
 part-is-careful-start c =
     let inside = inside-of _ _ _ (c .before .before .before .place-of .ensures) in
     omega arith
 
--- src/lib.rt:367:50
 part-is-careful-end : tie.Need-part-is-careful-end
 part-is-careful-end c =
     let inside = inside-of _ _ _ (c .before .before .before .place-of .ensures) in
     omega arith
 
--- src/lib.rt:367:17
 is-careful-requires : tie.Need-is-careful-requires
 is-careful-requires c κs = search needs
 
--- src/lib.rt:367:9
 returns : tie.Need-returns
 unfolding carelessAt
 returns c =
     let yes′ = sym (c .before .before .before .is-accepted .ensures) ∙ c .before .before .if1 .taken in
     rw (← c .before .before .before .before .before .place-of .ensures, yes′, c .is-careful .ensures)
 
--- src/lib.rt:349:1
 returns-2 : tie.Need-returns-2
 unfolding carelessAt
 returns-2 c =

@@ -9,13 +9,6 @@ use Prim.Native.Nat.{_≤_, _-_}
 use mathlib.Core.Path.{_≡_, sym, _∙_}
 use Rattle.judge.proofs.mark_in.Statement.{statement}
 use Rattle.judge.proofs.mark_in.Tie as tie
-use Rattle.judge.proofs.mark_in.Reads as reads
-use Rattle.judge.proofs.mark_in.Lts as lts
-use Rattle.device.proofs.LineState.at_reset.Reads as at-reset-reads
-use Rattle.device.proofs.LineState.step_as_is.Reads as step-as-is-reads
-use Rattle.judge.proofs.is_marked.Reads as is-marked-reads
-use Rattle.judge.proofs.level_at.Reads as level-at-reads
-use Rattle.judge.proofs.mark_of.Reads as mark-of-reads
 
 abbrev Inv-loop : tie.InvT-loop
 Inv-loop answers kind body from end state₀ k₀ state k = markOver answers kind body state k (end - k) ≡ markOver answers kind body resetState from (end - from)
@@ -23,54 +16,43 @@ Inv-loop answers kind body from end state₀ k₀ state k = markOver answers kin
 abbrev μ-loop : tie.MeasureT-loop
 μ-loop answers kind body from end state₀ k₀ state k = end - k
 
--- src/lib.rt:187:9
 at-reset-requires : tie.Need-at-reset-requires Inv-loop μ-loop
 at-reset-requires c κs = search needs
 
--- src/lib.rt:189:5
 loop-holds : tie.Need-loop-holds Inv-loop μ-loop
 unfolding markOver stateAfterSlotAsIs levelAt markOf orLater
 loop-holds c = simp (c .at-reset .ensures)
 
--- src/lib.rt:190:13
 level-at-requires : tie.Need-level-at-requires Inv-loop μ-loop
 level-at-requires c κs = search needs
 
--- src/lib.rt:191:13
 mark-of-requires : tie.Need-mark-of-requires Inv-loop μ-loop
 mark-of-requires c κs = search needs
 
--- src/lib.rt:192:12
 is-marked-requires : tie.Need-is-marked-requires Inv-loop μ-loop
 is-marked-requires c κs = search needs
 
--- src/lib.rt:193:13
 returns : tie.Need-returns Inv-loop μ-loop
 returns c =
     let a = c .before .before .before .before .before .before .before .before .before .args in
     let l = c .before .before .before .before .before .loop in
     mark-stops (a .answers .now) (a .kind) (a .body .now) (l .state) (l .k) (a .end) (c .before .before .before .before .loop-test .taken) _ _ _ (c .before .before .before .level-at .ensures) (c .before .before .mark-of .ensures) (l .inv) (sym (c .before .is-marked .ensures) ∙ c .if1 .taken)
 
--- src/lib.rt:195:9
 step-as-is-requires : tie.Need-step-as-is-requires Inv-loop μ-loop
 step-as-is-requires c κs = search needs
 
--- src/lib.rt:196:9
 add-k : tie.Need-add-k Inv-loop μ-loop
 add-k c = search needs
 
--- src/lib.rt:189:5
 loop-less : tie.Need-loop-less Inv-loop μ-loop
 loop-less c = search needs
 
--- src/lib.rt:189:5
 loop-again : tie.Need-loop-again Inv-loop μ-loop
 loop-again c =
     let a = c .before .before .before .before .before .before .before .before .before .before .args in
     let l = c .before .before .before .before .before .before .loop in
     mark-goes (a .answers .now) (a .kind) (a .body .now) (l .state) (l .k) (a .end) (c .before .before .before .before .before .loop-test .taken) _ _ _ (c .before .before .before .before .level-at .ensures) (c .before .before .before .mark-of .ensures) (l .inv) _ (sym (c .before .before .is-marked .ensures) ∙ c .before .if1 .left) (c .step-as-is .ensures)
 
--- src/lib.rt:184:1
 returns-2 : tie.Need-returns-2 Inv-loop μ-loop
 returns-2 c =
     let a = c .before .before .before .before .before .args in

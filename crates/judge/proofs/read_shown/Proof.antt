@@ -13,87 +13,63 @@ use mathlib.Core.Path.{_∙_, sym}
 use borrow.Author.Needs.{needs}
 use Rattle.judge.proofs.read_shown.Statement.{statement}
 use Rattle.judge.proofs.read_shown.Tie as tie
-use Rattle.judge.proofs.read_shown.Reads as reads
-use Rattle.judge.proofs.read_shown.Lts as lts
-use Rattle.bits.proofs.wide.Reads as wide-reads
-use Rattle.judge.proofs.bits_shown.Reads as bits-shown-reads
-use Rattle.judge.proofs.first_offset.Reads as first-offset-reads
-use Rattle.judge.proofs.wanted_bytes.Reads as wanted-bytes-reads
 
--- src/lib.rt:251:9
 returns : tie.Need-returns
 returns c =
     let a = c .before .before .before .args in
     sym (read-short (a .answers .now) (a .body .now) (a .end) (a .k) (omega (arith, c .if1 .taken)))
 
--- src/lib.rt:253:8
 sub-if2 : tie.Need-sub-if2
 sub-if2 c = search needs
 
--- src/lib.rt:254:9
 returns-2 : tie.Need-returns-2
 returns-2 c =
     let a = c .before .before .before .before .args in
     sym (read-short (a .answers .now) (a .body .now) (a .end) (a .k) (omega (arith, c .if2 .taken, c .before .if1 .left)))
 
--- src/lib.rt:256:52
 add-bits-shown : tie.Need-add-bits-shown
 add-bits-shown c = search needs
 
--- src/lib.rt:256:59
 mul-bits-shown : tie.Need-mul-bits-shown
 mul-bits-shown c = search needs
 
--- src/lib.rt:256:9
 bits-shown-requires : tie.Need-bits-shown-requires
 bits-shown-requires c κs = search needs
 
--- src/lib.rt:258:9
 returns-3 : tie.Need-returns-3
 unfolding readShown
 returns-3 c = simp (sym (c .before .bits-shown .ensures) ∙ not-true _ (c .if3 .taken), lt-leb _ _ (c .before .before .if2 .left), lt-leb _ _ (c .before .before .before .if1 .left))
 
--- src/lib.rt:260:52
 first-offset-requires : tie.Need-first-offset-requires
 first-offset-requires c κs = search needs
 
--- src/lib.rt:260:41
 wide-requires : tie.Need-wide-requires
 wide-requires c κs = search needs
 
--- src/lib.rt:260:22
 add-place : tie.Need-add-place
 add-place c = search needs
 
--- src/lib.rt:260:17
 mul-place : tie.Need-mul-place
 mul-place c = search needs
 
--- src/lib.rt:261:32
 wanted-bytes-requires : tie.Need-wanted-bytes-requires
 wanted-bytes-requires c κs = search needs
 
--- src/lib.rt:261:21
 wide-requires-2 : tie.Need-wide-requires-2
 wide-requires-2 c κs = search needs
 
--- src/lib.rt:261:17
 mul-count : tie.Need-mul-count
 mul-count c = search needs
 
--- src/lib.rt:262:36
 add-bits-shown-2 : tie.Need-add-bits-shown-2
 add-bits-shown-2 c = search needs
 
--- src/lib.rt:262:36
 add-bits-shown-3 : tie.Need-add-bits-shown-3
 add-bits-shown-3 c = search needs
 
--- src/lib.rt:262:5
 bits-shown-requires-2 : tie.Need-bits-shown-requires-2
 bits-shown-requires-2 c κs = search needs
 
--- src/lib.rt:247:1
 returns-4 : tie.Need-returns-4
 unfolding readShown
 returns-4 c =

@@ -6,84 +6,60 @@ use Rattle.judge.specs.Loops.{seenWith, seenBy, levelAt}
 use borrow.Author.Needs.{needs}
 use Rattle.judge.proofs.seen_with.Statement.{statement}
 use Rattle.judge.proofs.seen_with.Tie as tie
-use Rattle.judge.proofs.seen_with.Reads as reads
-use Rattle.judge.proofs.seen_with.Lts as lts
-use Rattle.bits.proofs.shift_in.Reads as shift-in-reads
-use Rattle.device.proofs.LineState.goes_on.Reads as goes-on-reads
-use Rattle.judge.proofs.doing_of.Reads as doing-of-reads
-use Rattle.judge.proofs.is_careless.Reads as is-careless-reads
-use Rattle.judge.proofs.is_write_or_copy.Reads as is-write-or-copy-reads
-use Rattle.judge.proofs.level_at.Reads as level-at-reads
 
--- src/lib.rt:394:17
 goes-on-requires : tie.Need-goes-on-requires
 goes-on-requires c κs = search needs
 
--- src/lib.rt:395:51
 level-at-requires : tie.Need-level-at-requires
 level-at-requires c κs = search needs
 
--- src/lib.rt:395:9
 shift-in-requires : tie.Need-shift-in-requires
 shift-in-requires c κs = search needs
 
--- src/lib.rt:396:11
 doing-of-requires : tie.Need-doing-of-requires
 doing-of-requires c κs = search needs
 
--- src/lib.rt:398:23
 enum-told : tie.Need-enum-told
 enum-told c = search needs
 
--- src/lib.rt:398:23
 add-t18 : tie.Need-add-t18
 add-t18 c = search needs
 
--- src/lib.rt:399:49
 is-write-or-copy-requires : tie.Need-is-write-or-copy-requires
 is-write-or-copy-requires c κs = search needs
 
--- src/lib.rt:402:27
 enum-told-2 : tie.Need-enum-told-2
 enum-told-2 c = search needs
 
--- src/lib.rt:403:26
 enum-known-at : tie.Need-enum-known-at
 enum-known-at c = search needs
 
--- src/lib.rt:405:17
 returns : tie.Need-returns
 unfolding seenWith seenBy
 returns c =
     simp (sym (c .before .before .before .before .doing-of .ensures) ∙ c .before .before .at .given .1, sym (c .before .before .before .before .before .before .before .goes-on .ensures) ∙ not-false _ (not-true _ (c .if1 .taken)), or-false)
 
--- src/lib.rt:407:17
 is-careless-requires : tie.Need-is-careless-requires
 is-careless-requires c κs = search needs
 
--- src/lib.rt:414:25
 enum-told-3 : tie.Need-enum-told-3
 enum-told-3 c = search needs
 
--- src/lib.rt:380:1
 returns-2 : tie.Need-returns-2
 unfolding seenWith seenBy
 returns-2 c =
     simp (sym (c .before .before .before .before .before .doing-of .ensures) ∙ c .before .before .before .enum-told .given .1, c .before .is-write-or-copy .ensures, c .before .before .before .before .before .before .shift-in .ensures, c .before .before .before .before .before .before .before .level-at .ensures, c .before .before .before .before .before .before .before .before .goes-on .ensures)
 
--- src/lib.rt:380:1
 returns-3 : tie.Need-returns-3
 unfolding seenWith seenBy
 returns-3 c =
     simp (sym (c .before .before .doing-of .ensures) ∙ c .enum-told2 .given .1)
 
--- src/lib.rt:380:1
 returns-4 : tie.Need-returns-4
 unfolding seenWith seenBy
 returns-4 c =
     simp (sym (c .before .before .before .before .before .before .doing-of .ensures) ∙ c .before .before .before .before .at .given .1, sym (c .before .before .before .before .before .before .before .before .before .goes-on .ensures) ∙ not-true _ (not-false _ (c .before .before .if1 .left)), c .before .is-careless .ensures, c .before .before .before .before .before .before .before .shift-in .ensures, c .before .before .before .before .before .before .before .before .level-at .ensures)
 
--- src/lib.rt:380:1
 returns-5 : tie.Need-returns-5
 unfolding seenWith seenBy
 returns-5 c =
