@@ -22,7 +22,7 @@ ghost use Rattle.recording.specs.Recorded.{agreesAt};
 ghost use Rattle.bus.specs.Loops.{placeIn};
 ghost use Rattle.judge.specs.Refusal.{judgeRefusal};
 ghost use Rattle.judge.specs.declared.Verdict.the-variants.{Accepted, Refused};
-ghost use Rattle.judge.specs.Judge.{JudgeLeaves, judgeOf};
+ghost use Rattle.judge.specs.Judge.{ruleNumber, refusalOf, ruleOf, brokenAt, JudgeLeaves, judgeOf};
 ghost use Rattle.judge.specs.Loops.{levelAt, sramDoing, memoryDoing, doingOf, markBy, markOf, markOver};
 ghost use Rattle.judge.specs.Loops.{bitShown, bitsShown, wantedBytes, readShown, backBy, backAt};
 ghost use Rattle.judge.specs.Loops.{isMarked, looksBack, carefulBy, carefulAt};
@@ -524,6 +524,51 @@ fn refused(number: u32) -> Verdict
     ensures { λ r. ⌜ r ≡ Refused number ⌝ }
 {
     Verdict::Refused(number)
+}
+
+// ---- the numbers of a verdict
+
+fn rule_number(rule: Rule) -> u64
+    ensures { λ r. ⌜ r ≡ ruleNumber rule ⌝ }
+{
+    match rule {
+        Rule::Answers => 1,
+        Rule::Command => 2,
+        Rule::Copy => 3,
+    }
+}
+
+// The refusal's number is 0 where the recording is judged.
+pub fn refusal_of(verdict: Verdict) -> u32
+    ensures { λ r. ⌜ r ≡ refusalOf verdict ⌝ }
+{
+    match verdict {
+        Verdict::Accepted => 0,
+        Verdict::Broken { rule: _, event: _ } => 0,
+        Verdict::Refused(number) => number,
+    }
+}
+
+// The broken rule is 1 for A, 2 for B and 3 for C; it is 0 where none is broken.
+pub fn rule_of(verdict: Verdict) -> u64
+    ensures { λ r. ⌜ r ≡ ruleOf verdict ⌝ }
+{
+    match verdict {
+        Verdict::Accepted => 0,
+        Verdict::Broken { rule, event: _ } => rule_number(rule),
+        Verdict::Refused(_) => 0,
+    }
+}
+
+// The event that breaks the rule is 0 where none is broken.
+pub fn event_of(verdict: Verdict) -> u64
+    ensures { λ r. ⌜ r ≡ brokenAt verdict ⌝ }
+{
+    match verdict {
+        Verdict::Accepted => 0,
+        Verdict::Broken { rule: _, event } => event as u64,
+        Verdict::Refused(_) => 0,
+    }
 }
 
 // ---- why a recording is not judged
