@@ -91,8 +91,8 @@ module _ (left : JudgeOutcome) (rule event : ℕ) (verdict : Verdict) (work : Li
   }
 
   -- refused: they are not
-  pub sees-none : (number ≡ 0 → ⊥) → HostJudgeLeaves left rule event number work rule event
-  sees-none h = record {
+  pub sees-unjudged : (number ≡ 0 → ⊥) → HostJudgeLeaves left rule event number work rule event
+  sees-unjudged h = record {
     number-is = as-left;
     work-is = judges .work-is;
     rule-is = sym (counted-not (refusalOf (left .verdict)) (ruleOf (left .verdict)) rule (λ z. h (as-left ∙ z)));

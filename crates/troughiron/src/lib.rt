@@ -104,12 +104,12 @@ pub extern "C" fn troughiron_judge(
         (now (rule .entry)) (now (event .entry)) r (now (work .exit)) (now (rule .exit)) (now (event .exit)) ⌝ }
 {
     let verdict = judge_own(image, trace, answers, work);
-    let number = judge::refusal_of(verdict);
-    if number == ACCEPTED {
+    let refused = judge::refusal_of(verdict);
+    if refused == ACCEPTED {
         *rule = judge::rule_of(verdict);
         *event = judge::event_of(verdict);
     }
-    number
+    refused
 }
 
 // The registration check returns 1 for yes and 0 for no.
