@@ -63,8 +63,8 @@ doingOf (Memory m) = memoryDoing m
 
 -- ---- one transaction of a device, from the slot after a reset on
 
--- A memory command AAh that completes in slot k begins a read, whose first slot is the next one. A write is one with its
--- last address bit.
+-- A memory command AAh that completes in slot k begins a read, whose first slot is the next one. A write is one with
+-- its last address bit.
 unfoldable pub markBy : Doing → Bool → ℕ → ℕ → Mark
 markBy Command last value k = cond (last && eqb value 0xAA) (ReadAfter k) Unmarked
 markBy Address last value k = cond last Wrote Unmarked

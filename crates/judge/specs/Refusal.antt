@@ -1,5 +1,5 @@
--- Document 01, 'Refusals in order', and document 02, items 5 and 6, are stated here: the causes for which a recording is
--- not judged. All but the last are the run's.
+-- Document 01, 'Refusals in order', and document 02, items 5 and 6, are stated here: the causes for which a recording
+-- is not judged. All but the last are the run's.
 use Prim.Native.Nat.{ℕ}
 use mathlib.Core.Bool.{Bool, not, _||_}
 use mathlib.Core.List.{List, [], _∷_, _++_}

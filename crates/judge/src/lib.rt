@@ -64,8 +64,8 @@ enum Mark {
     ReadAfter(usize),
 }
 
-// The walk back from a copy has come to event `end`. It has `shown` if one of the reads from there on showed what it had
-// to, and it has decided once it has found the last write.
+// The walk back from a copy has come to event `end`. It has `shown` if one of the reads from there on showed what it
+// had to, and it has decided once it has found the last write.
 struct Back {
     end: usize,
     shown: bool,
@@ -179,8 +179,8 @@ fn is_marked(mark: Mark) -> bool
 }
 
 // This is the mark of a transaction from slot `from`, the first after its reset, up to event `end`. The device is
-// followed by the recorded answers; its body may be that of a later time, as nothing up to the mark depends on more than
-// the code.
+// followed by the recorded answers; its body may be that of a later time, as nothing up to the mark depends on more
+// than the code.
 fn mark_in(answers: &[u8], kind: Kind, body: &[u8], from: usize, end: usize) -> Mark
     ensures { λ r. ⌜ r ≡ markOver (now (answers .entry)) kind (now (body .entry)) resetState from (end - from) ⌝ }
 {
@@ -242,8 +242,8 @@ fn wanted_bytes(body: &[u8]) -> u8
     if last < first { 0 } else { last + 1 - first }
 }
 
-// A read whose command completed in slot k showed the registers, then the bytes from T4:T0 through the ending offset, by
-// their values in the body as it is at the copy.
+// A read whose command completed in slot k showed the registers, then the bytes from T4:T0 through the ending offset,
+// by their values in the body as it is at the copy.
 fn read_shown(answers: &[u8], body: &[u8], end: usize, k: usize) -> bool
     ensures { λ r. ⌜ r ≡ readShown (now (answers .entry)) (now (body .entry)) end k ⌝ }
 {
@@ -573,8 +573,8 @@ pub fn event_of(verdict: Verdict) -> u64
 
 // ---- why a recording is not judged
 
-// A recording is refused with the number of the first cause that applies, in the order 1 to 5, 11, 6, 7; the number is 0
-// where none does. All causes but two are the run's.
+// A recording is refused with the number of the first cause that applies, in the order 1 to 5, 11, 6, 7; the number is
+// 0 where none does. All causes but two are the run's.
 pub fn refusal(image: &[u8], trace: &[u8], answers: usize, work: usize, lines: usize) -> u32
     ensures { λ r. ⌜ r ≡ judgeRefusal (now (image .entry)) (now (trace .entry)) answers work lines ⌝ }
 {

@@ -1,5 +1,5 @@
-// This crate is the reader of a recorded session: a struct that holds the trace that a program sent, the answers that it
-// recorded, and a place in both. The functions over the struct are thin and proved by hand; the work is done by a
+// This crate is the reader of a recorded session: a struct that holds the trace that a program sent, the answers that
+// it recorded, and a place in both. The functions over the struct are thin and proved by hand; the work is done by a
 // function over plain slices and a number. `check` serves callers that have only these.
 ghost use mathlib.Core.Path.{_≡_};
 ghost use Rattle.recording.specs.Recorded.{agreesAt};

@@ -63,7 +63,8 @@ pub record OwnJudgeLeaves (left : JudgeOutcome) (verdict : Verdict) (work : List
 
 -- The host sees of a judgement its number, the work space, the broken rule and its event; `rule` and `event` were the
 -- numbers before.
-pub record HostJudgeLeaves (left : JudgeOutcome) (rule event number : ℕ) (work : List ℕ) (rule′ event′ : ℕ) : Type 0 where
+pub record HostJudgeLeaves (left : JudgeOutcome) (rule event number : ℕ) (work : List ℕ) (rule′ event′ : ℕ)
+    : Type 0 where
   pub number-is : number ≡ refusalOf (left .verdict)
   pub work-is : work ≡ left .work
   pub rule-is : rule′ ≡ countAfter (refusalOf (left .verdict)) (ruleOf (left .verdict)) rule
