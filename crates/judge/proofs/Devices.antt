@@ -9,11 +9,11 @@ use native.Mathlib.Nat.{add-zero}
 use lib.ListN.{length, getD, take, drop, length-map}
 use lib.Seq.{length-take-le, take-suc, getD-at}
 use lib.Dec.{eqb, ltb}
-use borrow.Author.Tests.{eqb-true, eqb-false, ltb-false, lt-ltb, le-ltb, not-false}
+use borrow.Author.Tests.{not-false}
 use Rattle.bits.specs.Bit.{levelByte}
 use Rattle.kind.specs.declared.Kind.{Kind}
 use Rattle.kind.specs.declared.Kind.the-variants as kinds
-use Rattle.kind.specs.Kind.{codeLength, isFlat, isSram, isEprom, memorySize, bodySize}
+use Rattle.kind.specs.Kind.{isFlat, isSram, memorySize, bodySize, speedKnown}
 use Rattle.image.specs.Image.{countOf, kindAt}
 use Rattle.image.specs.Refusal.{someBelow}
 use Rattle.image.proofs.Laws.{some-at}
@@ -27,22 +27,21 @@ use Rattle.sram.specs.declared.CopyDone.{CopyDone}
 use Rattle.sram.specs.declared.CopyDone.the-variants.{NoCopy, Made}
 use Rattle.sram.specs.Sram.{sramCopy, patternCopy, patternSame, copyMade}
 use Rattle.device.specs.declared.LineState.{LineState}
-use Rattle.device.specs.Device.{resetState, memoryCopy, stageCopy, copyInSlotAsIs, copyInSlot, memoryRange, stageRange, lineStateInRange, stateAfterSlotAsIs}
-use Rattle.device.proofs.Range.{taken-as-is, step-same}
-use Rattle.bus.specs.declared.Event.{Event}
-use Rattle.bus.specs.declared.Event.the-variants.{Slot, Reset, Pulse}
-use Rattle.bus.specs.Bus.{Device, eventOf, levelOf, nextState, nextDevice, busStepAt, busStep, Run, withAnswer, runTrace}
-use Rattle.bus.specs.Refusal.{someByte, badTrace, noFirstReset, badPulse}
+use Rattle.device.specs.Device.{memoryCopy, stageCopy, copyInSlotAsIs, copyInSlot, memoryRange, stageRange, lineStateInRange}
+use Rattle.device.proofs.Range.{taken-as-is}
+use Rattle.bus.specs.Bus.{Device, deviceWith, eventOf, takenState, levelOf, nextDevice, busStepAt, busStep, Run, withAnswer, runTrace}
+use Rattle.bus.specs.Loops.{nextStateAsIs}
+use Rattle.bus.specs.Refusal.{noFirstReset}
 use Rattle.bus.proofs.Laws.{first-event}
-use Rattle.bus.proofs.Ranges.{InRange, AllIn, run-in}
+use Rattle.bus.proofs.Ranges.{InRange, AllIn, run-in, as-it-is-state}
 use Rattle.bus.proofs.Runs.{run-append, Same, AllSame, none, also, run-same, same-length}
 use Rattle.judge.specs.declared.Doing.{Doing}
 use Rattle.judge.specs.declared.Doing.the-variants.{Command, Address, Pattern, Other}
 use Rattle.judge.specs.declared.Seen.{Seen}
-use Rattle.judge.specs.Rules.{Moment, isSlot, isLast, isCommand, isMemoryCommand, atMemoryCommand, completes, isMade, acceptsCopy, wantedBits, shownSinceWrite}
+use Rattle.judge.specs.Rules.{Moment, isLast, isCommand, isMemoryCommand, atMemoryCommand, completes, isMade, acceptsCopy, wantedBits, shownSinceWrite}
 use Rattle.judge.specs.Rules.{deviceAt, devicesAt, momentOf, momentAt, momentsOf}
-use Rattle.judge.specs.Loops.{levelAt, sramDoing, memoryDoing, doingOf, patternAccepted, seenSo, seenBy, carefulAt}
-use Rattle.judge.proofs.Moments.{upFrom, up-append, WayTo, careful-is}
+use Rattle.judge.specs.Loops.{levelAt, slotAt, sramDoing, memoryDoing, doingOf, patternAccepted, seenSo, seenBy, carefulAt}
+use Rattle.judge.proofs.Moments.{slot-heard, upFrom, up-append, WayTo, careful-is}
 
 -- ---- what is seen, by the stage
 
@@ -147,15 +146,15 @@ both-true : (x y : Bool) → (x && y) ≡ true → (x ≡ true) × (y ≡ true)
 both-true true y e = (refl, e)
 both-true false y e = absurd (true≢false (sym e))
 
-pub careless-stage : (stage : Stage) (kind : Kind) (register left : ℕ) → stageRange stage kind register left ≡ true → (last : Bool) (value : ℕ) (body : List ℕ) (careful shown : Bool)
+pub careless-stage : (stage : Stage) (kind : Kind) (overdrive : Bool) (register left : ℕ) → stageRange stage kind overdrive register left ≡ true → (last : Bool) (value : ℕ) (body : List ℕ) (careful shown : Bool)
     → (isSram kind ≡ true → careful ≡ shown)
     → carelessBy (doingOf stage) last (λ at same. patternAccepted at same value body && not careful) ≡ ((last && isMade (stageCopy stage kind value body)) && not shown)
 unfolding doingOf memoryDoing stageCopy memoryCopy stageRange memoryRange isMade
-careless-stage (Rom r) kind register left ok last value body careful shown e = none-of last shown
-careless-stage (Memory memories.Command) kind register left ok last value body careful shown e = none-of last shown
-careless-stage (Memory (memories.Sram s)) kind register left ok last value body careful shown e =
+careless-stage (Rom r) kind overdrive register left ok last value body careful shown e = none-of last shown
+careless-stage (Memory memories.Command) kind overdrive register left ok last value body careful shown e = none-of last shown
+careless-stage (Memory (memories.Sram s)) kind overdrive register left ok last value body careful shown e =
     careless-sram s (memorySize kind) last value body careful shown (e (both-true (isSram kind) _ (both-true (not (isFlat kind)) _ ok .1) .0))
-careless-stage (Memory (memories.Eprom x)) kind register left ok last value body careful shown e = none-of last shown
+careless-stage (Memory (memories.Eprom x)) kind overdrive register left ok last value body careful shown e = none-of last shown
 
 -- ---- what a moment says in a slot
 
@@ -164,29 +163,43 @@ unfolding isMade
 made-last true c = refl
 made-last false c = refl
 
-pub accepts-is : (m : Moment) → isSlot (m .event) ≡ true → InRange (m .device)
-    → acceptsCopy m ≡ (not (goesOn (m .device .state .transfer)) && isMade (stageCopy (m .device .state .transfer .stage) (m .device .kind) (received (m .device .state .transfer) (m .level)) (m .device .body)))
+-- the event of a byte is the last slot of a transfer, and the device hears it
+abbrev pub lastIn : ℕ → Moment → Bool
+lastIn byte m = slotAt byte (m .device .state .overdrive) && not (goesOn (m .device .state .transfer))
+
+taken-so : (d : Device) → InRange d → takenState d ≡ d .state
+unfolding takenState
+taken-so d r = taken-as-is (d .state) (d .kind) (d .body) r
+
+pub accepts-is : (m : Moment) (byte : ℕ) → m .event ≡ eventOf byte → InRange (m .device)
+    → acceptsCopy m ≡ (lastIn byte m && isMade (stageCopy (m .device .state .transfer .stage) (m .device .kind) (received (m .device .state .transfer) (m .level)) (m .device .body)))
 unfolding acceptsCopy copyInSlot copyInSlotAsIs
-accepts-is m slot ranged =
+accepts-is m byte event ranged =
     let d = m .device in
-    ap (λ (b : Bool). b && isMade (copyInSlot (d .state) (d .kind) (d .body) (m .level))) slot
-    ∙ ap (λ (s : LineState). isMade (copyInSlotAsIs s (d .kind) (d .body) (m .level))) (taken-as-is (d .state) (d .kind) (d .body) ranged)
-    ∙ made-last (goesOn (d .state .transfer)) (stageCopy (d .state .transfer .stage) (d .kind) (received (d .state .transfer) (m .level)) (d .body))
+    let c = stageCopy (d .state .transfer .stage) (d .kind) (received (d .state .transfer) (m .level)) (d .body) in
+    let h = slotAt byte (d .state .overdrive) in
+    ap (λ (b : Bool). b && isMade (copyInSlot (d .state) (d .kind) (d .body) (m .level))) (slot-heard m byte event (taken-so d ranged))
+    ∙ ap (λ (s : LineState). h && isMade (copyInSlotAsIs s (d .kind) (d .body) (m .level))) (taken-as-is (d .state) (d .kind) (d .body) ranged)
+    ∙ ap (λ (b : Bool). h && b) (made-last (goesOn (d .state .transfer)) c)
+    ∙ and-again h (not (goesOn (d .state .transfer))) (isMade c)
 
-either-completes : (a b x y : Bool) → ((a && (b && x)) || (a && (b && y))) ≡ (a && (b && (x || y)))
-either-completes true true x y = refl
-either-completes true false x y = refl
-either-completes false b x y = refl
+either-completes : (h a b x y : Bool) → ((h && (a && (b && x))) || (h && (a && (b && y)))) ≡ (a && ((h && b) && (x || y)))
+either-completes true true true x y = refl
+either-completes true true false x y = refl
+either-completes true false b x y = refl
+either-completes false true b x y = refl
+either-completes false false b x y = refl
 
-pub completes-is : (m : Moment) → isSlot (m .event) ≡ true
+pub completes-is : (m : Moment) (byte : ℕ) → m .event ≡ eventOf byte → InRange (m .device)
     → (completes 0x0F m || completes 0x55 m)
-    ≡ (isMemoryCommand (m .device .state .transfer .stage) && (not (goesOn (m .device .state .transfer)) && (eqb (received (m .device .state .transfer) (m .level)) 0x0F || eqb (received (m .device .state .transfer) (m .level)) 0x55)))
+    ≡ (isMemoryCommand (m .device .state .transfer .stage) && (lastIn byte m && (eqb (received (m .device .state .transfer) (m .level)) 0x0F || eqb (received (m .device .state .transfer) (m .level)) 0x55)))
 unfolding completes isLast
-completes-is m slot =
+completes-is m byte event ranged =
     let t = m .device .state .transfer in
     let v = received t (m .level) in
-    (λ i. (slot i && (isMemoryCommand (t .stage) && (not (goesOn t) && eqb v 0x0F))) || (slot i && (isMemoryCommand (t .stage) && (not (goesOn t) && eqb v 0x55))))
-    ∙ either-completes (isMemoryCommand (t .stage)) (not (goesOn t)) (eqb v 0x0F) (eqb v 0x55)
+    let heard = slot-heard m byte event (taken-so (m .device) ranged) in
+    (λ i. (heard i && (isMemoryCommand (t .stage) && (not (goesOn t) && eqb v 0x0F))) || (heard i && (isMemoryCommand (t .stage) && (not (goesOn t) && eqb v 0x55))))
+    ∙ either-completes (slotAt byte (m .device .state .overdrive)) (isMemoryCommand (t .stage)) (not (goesOn t)) (eqb v 0x0F) (eqb v 0x55)
 
 -- ---- the devices at an event
 
@@ -226,64 +239,13 @@ moments-once : (byte : ℕ) (ds : List Device) (i : ℕ) → momentsOf (byte ∷
 unfolding momentsOf
 moments-once byte ds i = refl
 
--- ---- the events of a trace that is not refused
-
-byte-none : (p : ℕ → Bool) (trace : List ℕ) → someByte p trace ≡ false → (j : ℕ) → j < length trace → p (getD trace j 0) ≡ false
-unfolding someByte
-byte-none p [] e j h = absurd (omega arith)
-byte-none p (x ∷ trace) e zero h = or-first (p x) _ e
-  where
-    or-first : (a b : Bool) → (a || b) ≡ false → a ≡ false
-    or-first true b e = absurd (true≢false e)
-    or-first false b e = refl
-byte-none p (x ∷ trace) e (suc j) h = byte-none p trace (or-second (p x) _ e) j (omega arith)
-  where
-    or-second : (a b : Bool) → (a || b) ≡ false → b ≡ false
-    or-second true b e = absurd (true≢false e)
-    or-second false b e = e
-
-slot-cond : (x y z : Bool) → isSlot (cond x (Slot false) (cond y (Slot true) (cond z Reset Pulse))) ≡ (x || y)
-unfolding isSlot
-slot-cond true y z = refl
-slot-cond false true z = refl
-slot-cond false false true = refl
-slot-cond false false false = refl
-
-pub slot-event : (byte : ℕ) → isSlot (eventOf byte) ≡ ltb byte 2
-unfolding eventOf
-slot-event byte = slot-cond (eqb byte 0) (eqb byte 1) (eqb byte 2) ∙ small (eqb byte 0) (eqb byte 1) refl refl
-  where
-    small : (x y : Bool) → eqb byte 0 ≡ x → eqb byte 1 ≡ y → (x || y) ≡ ltb byte 2
-    small true y e f = sym (lt-ltb byte 2 (omega (arith, eqb-true byte 0 e)))
-    small false true e f = sym (lt-ltb byte 2 (omega (arith, eqb-true byte 1 f)))
-    small false false e f = sym (le-ltb byte 2 (omega (arith, eqb-false byte 0 e, eqb-false byte 1 f)))
-
-reset-event : (byte : ℕ) → eqb byte 2 ≡ true → eventOf byte ≡ Reset
-unfolding eventOf
-reset-event byte e = subst (λ (b : ℕ). cond (eqb b 0) (Slot false) (cond (eqb b 1) (Slot true) (cond (eqb b 2) Reset Pulse)) ≡ Reset) (sym (eqb-true byte 2 e)) refl
-
-state-slot : (event : Event) (level : Bool) (d : Device) → isSlot event ≡ true → InRange d
-    → nextDevice event level d .state ≡ stateAfterSlotAsIs (d .state) (d .kind) (d .body) level
-unfolding isSlot nextDevice nextState
-state-slot (Slot sent) level d e r = step-same (d .state) (d .kind) (d .body) r level
-state-slot Reset level d e r = absurd (true≢false (sym e))
-state-slot Pulse level d e r = absurd (true≢false (sym e))
-
-state-reset : (level : Bool) (d : Device) → nextDevice Reset level d .state ≡ resetState
-unfolding nextDevice nextState
-state-reset level d = refl
-
-no-slot-reset : isSlot Reset ≡ false
-unfolding isSlot
-no-slot-reset = refl
-
-pub range-stage : (d : Device) → InRange d → stageRange (d .state .transfer .stage) (d .kind) (d .state .transfer .register) (d .state .transfer .left) ≡ true
+pub range-stage : (d : Device) → InRange d → stageRange (d .state .transfer .stage) (d .kind) (d .state .overdrive) (d .state .transfer .register) (d .state .transfer .left) ≡ true
 unfolding lineStateInRange
-range-stage d r = both-true (eqb (length (d .body)) (bodySize (d .kind))) _ r .1
+range-stage d r = both-true (speedKnown (d .kind) (d .state .overdrive)) _ (both-true (eqb (length (d .body)) (bodySize (d .kind))) _ r .1) .1
 
 -- ---- the way of one device with a scratchpad
 
-module _ (trace answers : List ℕ) (ds : List Device) (ranged : AllIn ds) (good : badTrace trace ≡ false) (first : noFirstReset trace ≡ false)
+module _ (trace answers : List ℕ) (ds : List Device) (ranged : AllIn ds) (first : noFirstReset trace ≡ false)
     (i : ℕ) (there : i < length ds) (k : ℕ) (within : k < length trace)
     (agree : (j : ℕ) → j ≤ k → levelOf (eventOf (getD trace j 0)) (devicesAt trace ds j) ≡ levelAt answers j) where
   abbrev m : ℕ → Moment
@@ -306,42 +268,30 @@ module _ (trace answers : List ℕ) (ds : List Device) (ranged : AllIn ds) (good
       ap (λ (l : List Device). deviceAt l i) (devices-next trace ds j (omega (arith, h, within)))
       ∙ map-at (nextDevice (m j .event) (m j .level)) (es j) i (still-there j)
 
-  module _ (size : ℕ) (flat : Bool) (kind : deviceAt (es k) i .kind ≡ kinds.Sram size flat) (no-pulse : someByte (λ byte. eqb byte 3) trace ≡ false) where
+  module _ (size : ℕ) (flat : Bool) (kind : deviceAt (es k) i .kind ≡ kinds.Sram size flat) where
     abbrev K : Kind
     K = kinds.Sram size flat
 
     kind-at : (j : ℕ) → deviceAt (es j) i .kind ≡ K
     kind-at j = same-as j .kind ∙ sym (same-as k .kind) ∙ kind
 
-    unknown-none : someByte (λ byte. ltb 3 byte) trace ≡ false
-    unfolding badTrace
-    unknown-none = or-second (ltb 32768 (length trace)) _ good
-      where
-        or-second : (a b : Bool) → (a || b) ≡ false → b ≡ false
-        or-second true b e = absurd (true≢false e)
-        or-second false b e = e
-
-    slot-at : (j : ℕ) → j < k → eqb (getD trace j 0) 2 ≡ false → isSlot (m j .event) ≡ true
-    slot-at j h e =
-        let byte = getD trace j 0 in
-        let a = byte-none (λ byte. ltb 3 byte) trace unknown-none j (omega (arith, h, within)) in
-        let b = byte-none (λ byte. eqb byte 3) trace no-pulse j (omega (arith, h, within)) in
-        slot-event byte ∙ lt-ltb byte 2 (omega (arith, ltb-false 3 byte a, eqb-false byte 3 b, eqb-false byte 2 e))
+    state-next : (j : ℕ) → j < k → m (suc j) .device .state ≡ nextStateAsIs (eventOf (getD trace j 0)) (levelAt answers j) (deviceWith K (m j .device .body) (m j .device .state))
+    unfolding nextDevice
+    state-next j h =
+        ap (λ (d : Device). d .state) (device-next j h)
+        ∙ sym (as-it-is-state (m j .device) (range-at j) (m j .event) (m j .level))
+        ∙ (λ z. nextStateAsIs (eventOf (getD trace j 0)) (agree j (omega (arith, h)) z) (deviceWith (kind-at j z) (m j .device .body) (m j .device .state)))
 
     way : WayTo trace answers m k size flat
     way = record {
       level-is = λ j h. agree j (omega (arith, h));
-      slot-is = slot-at;
-      reset-is = λ j h e. ap isSlot (reset-event (getD trace j 0) e) ∙ no-slot-reset;
+      event-is = λ j h. refl;
+      taken = λ j h. taken-so (m j .device) (range-at j);
       first-is = λ h. not-false _ (sym (first-event trace (omega (arith, within))) ∙ first);
-      kind-is = λ j h. kind-at j;
       code-is = λ j h. same-as k .code ∙ sym (same-as j .code);
-      ranged = λ j h. subst (λ (x : Kind). stageRange (m j .device .state .transfer .stage) x (m j .device .state .transfer .register) (m j .device .state .transfer .left) ≡ true) (kind-at j)
+      ranged = λ j h. subst (λ (x : Kind). stageRange (m j .device .state .transfer .stage) x (m j .device .state .overdrive) (m j .device .state .transfer .register) (m j .device .state .transfer .left) ≡ true) (kind-at j)
           (range-stage (m j .device) (range-at j));
-      slot-next = λ j h e. ap (λ (d : Device). d .state) (device-next j h) ∙ state-slot (m j .event) (m j .level) (m j .device) (slot-at j h e) (range-at j)
-          ∙ ap (λ (x : Kind). stateAfterSlotAsIs (m j .device .state) x (m j .device .body) (m j .level)) (kind-at j);
-      reset-next = λ j h e. ap (λ (d : Device). d .state) (device-next j h)
-          ∙ ap (λ (x : Event). nextDevice x (m j .level) (m j .device) .state) (reset-event (getD trace j 0) e) ∙ state-reset (m j .level) (m j .device);
+      next-is = state-next;
     }
 
     moments-are : (j : ℕ) → j ≤ k → momentsOf (take j trace) ds i ≡ upFrom trace answers m 0 j

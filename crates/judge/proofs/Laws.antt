@@ -1,27 +1,23 @@
 -- Laws that the proofs of this crate cite. Assumes nothing.
 use Prim.Native.Nat.{ℕ, zero, suc, _+_, _-_, _*_, _<_, _≤_}
 use mathlib.Core.Path.{_≡_, refl, sym, ap, subst, _∙_}
-use mathlib.Core.Bool.{Bool, true, false, not, cond, _&&_, _||_, true≢false}
+use mathlib.Core.Bool.{Bool, true, false, not, cond, _&&_, _||_, true≢false, Bool·beq}
 use mathlib.Core.List.{List, [], _∷_, _++_}
 use native.Mathlib.Omega.{arith}
 use native.Mathlib.Numerals.{add-one}
 use lib.ListN.{length, getD, set, length-set}
 use lib.Dec.{eqb, ltb, lit<}
 use borrow.Author.Tests.{ltb-true, ltb-false, le-ltb, lt-ltb}
-use Rattle.bits.specs.Bit.{bitAt}
 use Rattle.kind.specs.declared.Kind.{Kind}
-use Rattle.kind.specs.Kind.{ta1}
 use Rattle.device.specs.declared.LineState.{LineState}
-use Rattle.device.specs.Device.{stateAfterSlotAsIs}
 use Rattle.image.specs.Image.{countOf}
 use Rattle.image.specs.Refusal.{cause, firstCause, imageCauses, imageRefusal}
 use Rattle.bus.specs.Refusal.{badTrace, noFirstReset, badPulse, noRunRoom, runCauses, runRefusal}
 use Rattle.bus.proofs.Laws.{first-some, first-none, run-causes, admitted, turns-image-length, turns-lines-length}
 use Rattle.judge.specs.Refusal.{noJudgeRoom, judgeCauses, judgeRefusal}
-use Rattle.judge.specs.declared.Mark.{Mark}
-use Rattle.judge.specs.declared.Mark.the-variants.{Unmarked, Wrote, ReadAfter}
+use Rattle.judge.specs.declared.Part.{Part}
 use Rattle.judge.specs.declared.Back.{Back}
-use Rattle.judge.specs.Loops.{levelAt, markOf, isMarked, orLater, markOver, bitShown, bitsShown, readShown, laidUpTo}
+use Rattle.judge.specs.Loops.{levelAt, slotAt, passedAt, lineNext, wantedBit, readsOn, bitsIn, shownFrom, partAt, partOver, laidUpTo}
 use Rattle.bus.specs.Loops.{lineAt, levelOn, busState}
 use Rattle.judge.specs.Loops.{JudgeState, judgeEventAt, judgeEventsUpTo}
 use Rattle.judge.specs.declared.Doing.{Doing}
@@ -30,112 +26,96 @@ use Rattle.judge.specs.declared.Seen.{Seen}
 use Rattle.judge.specs.Loops.{doingOf, seenBy, seenWith, seenUpTo}
 use Rattle.judge.specs.Loops.{looksBack, backAt, backFrom}
 
--- ---- the mark of a transaction
+-- ---- the part of a trace
 
-pub marked-is : (m later : Mark) → isMarked m ≡ true → orLater m later ≡ m
-unfolding isMarked orLater
-marked-is Unmarked later e = absurd (true≢false (sym e))
-marked-is Wrote later e = refl
-marked-is (ReadAfter k) later e = refl
+module _ (trace answers : List ℕ) (kind : Kind) (body : List ℕ) (end : ℕ) where
+  -- one event of it
+  pub part-step : (state : LineState) (part : Part) (k : ℕ) → k < end
+      → partOver trace answers kind body end state part k (end - k)
+      ≡ partOver trace answers kind body end (lineNext trace answers kind body k state) (partAt trace answers body end k state part) (k + 1) (end - (k + 1))
+  unfolding partOver
+  part-step state part k h =
+      let e : end - k ≡ suc (end - suc k) = omega arith in
+      rw (e, add-one)
 
-pub unmarked-is : (m later : Mark) → isMarked m ≡ false → orLater m later ≡ later
-unfolding isMarked orLater
-unmarked-is Unmarked later e = refl
-unmarked-is Wrote later e = absurd (true≢false e)
-unmarked-is (ReadAfter k) later e = absurd (true≢false e)
-
--- one slot of it
-pub mark-step : (answers : List ℕ) (kind : Kind) (body : List ℕ) (state : LineState) (k end : ℕ) → k < end
-    → markOver answers kind body state k (end - k)
-    ≡ orLater (markOf state (levelAt answers k) k)
-    (markOver answers kind body (stateAfterSlotAsIs state kind body (levelAt answers k)) (k + 1) (end - (k + 1)))
-unfolding markOver
-mark-step answers kind body state k end h =
-    let e : end - k ≡ suc (end - suc k) = omega arith in
-    rw (e, add-one)
-
-pub mark-end : (answers : List ℕ) (kind : Kind) (body : List ℕ) (state : LineState) (k end : ℕ) → end ≤ k
-    → markOver answers kind body state k (end - k) ≡ Unmarked
-unfolding markOver
-mark-end answers kind body state k end h =
-    let e : end - k ≡ 0 = omega arith in
-    rw e
-
--- a turn of the loop goes on without a mark, or stops at one
-module _ (answers : List ℕ) (kind : Kind) (body : List ℕ) (state : LineState) (k end : ℕ) (h : k < end) (level : Bool) (mark found : Mark)
-    (el : level ≡ levelAt answers k) (em : mark ≡ markOf state level k) (inv : markOver answers kind body state k (end - k) ≡ found) where
-  mark-here : mark ≡ markOf state (levelAt answers k) k
-  mark-here = em ∙ ap (λ (l : Bool). markOf state l k) el
-
-  pub mark-goes : (next : LineState) → isMarked mark ≡ false → next ≡ stateAfterSlotAsIs state kind body level
-      → markOver answers kind body next (k + 1) (end - (k + 1)) ≡ found
-  mark-goes next none en =
-      ap (λ (s : LineState). markOver answers kind body s (k + 1) (end - (k + 1))) (en ∙ ap (stateAfterSlotAsIs state kind body) el)
-      ∙ sym (unmarked-is (markOf state (levelAt answers k) k) _ (ap isMarked (sym mark-here) ∙ none))
-      ∙ sym (mark-step answers kind body state k end h)
-      ∙ inv
-
-  pub mark-stops : isMarked mark ≡ true → mark ≡ found
-  mark-stops some =
-      mark-here
-      ∙ sym (marked-is (markOf state (levelAt answers k) k) (markOver answers kind body (stateAfterSlotAsIs state kind body (levelAt answers k)) (k + 1) (end - (k + 1)))
-      (ap isMarked (sym mark-here) ∙ some))
-      ∙ sym (mark-step answers kind body state k end h)
-      ∙ inv
+  pub part-end : (state : LineState) (part : Part) (k : ℕ) → end ≤ k → partOver trace answers kind body end state part k (end - k) ≡ part
+  unfolding partOver
+  part-end state part k h =
+      let e : end - k ≡ 0 = omega arith in
+      rw e
 
 -- ---- the bits that were shown
-
-pub bits-step : (answers body : List ℕ) (end k place left : ℕ) → 0 < left
-    → bitsShown answers body end k place left
-    ≡ (bitShown answers end k (bitAt body place) && bitsShown answers body end (k + 1) (place + 1) (left - 1))
-unfolding bitsShown
-bits-step answers body end k place zero h = absurd (omega arith)
-bits-step answers body end k place (suc left) h =
-    let e : suc left - 1 ≡ left = omega arith in
-    rw (e, add-one k, add-one place)
-
-pub bits-none : (answers body : List ℕ) (end k place left : ℕ) → left ≡ 0 → bitsShown answers body end k place left ≡ true
-unfolding bitsShown
-bits-none answers body end k place left e = rw e
 
 and-left : (a b : Bool) → (a && b) ≡ true → a ≡ true
 and-left true b e = refl
 and-left false b e = e
 
--- a turn of the loop goes on with a bit that was shown, or stops at one that was not
-module _ (answers body : List ℕ) (end k place left : ℕ) (h : 0 < left) (bit ok found : Bool) (eb : bit ≡ bitAt body place)
-    (es : ok ≡ bitShown answers end k bit) (inv : bitsShown answers body end k place left ≡ found) where
-  bits-here : (ok && bitsShown answers body end (k + 1) (place + 1) (left - 1)) ≡ found
-  bits-here =
-      ap (λ (b : Bool). b && bitsShown answers body end (k + 1) (place + 1) (left - 1)) (es ∙ ap (bitShown answers end k) eb)
-      ∙ sym (bits-step answers body end k place left h)
-      ∙ inv
+and-right : (a b : Bool) → (a && b) ≡ true → b ≡ true
+and-right true b e = e
+and-right false b e = absurd (true≢false (sym e))
 
-  pub bits-go : ok ≡ true → bitsShown answers body end (k + 1) (place + 1) (left - 1) ≡ found
-  bits-go e = sym (ap (λ (b : Bool). b && bitsShown answers body end (k + 1) (place + 1) (left - 1)) e) ∙ bits-here
+module _ (trace answers body : List ℕ) (overdrive : Bool) (end : ℕ) where
+  abbrev shown : ℕ → ℕ → ℕ → ℕ → Bool
+  shown at due k left = shownFrom trace answers body overdrive at due k left
 
-  pub bits-stop : ok ≡ false → false ≡ found
-  bits-stop e = sym (ap (λ (b : Bool). b && bitsShown answers body end (k + 1) (place + 1) (left - 1)) e) ∙ bits-here
+  -- a read that goes on has not come to the end
+  pub reads-before : (k at : ℕ) → readsOn trace answers body overdrive end k at ≡ true → k < end
+  unfolding readsOn
+  reads-before k at e = ltb-true k end (and-left (ltb k end) _ e)
 
--- a slot that showed a bit comes before the end
-pub shown-before : (answers : List ℕ) (end k : ℕ) (bit : Bool) → bitShown answers end k bit ≡ true → k < end
-unfolding bitShown
-shown-before answers end k bit e = ltb-true k end (and-left (ltb k end) _ e)
+  shown-choose : (k at due left : ℕ) (s b p : Bool) → cond s b p ≡ true
+      → cond s (b && shown (suc at) due (suc k) left) (p && shown at (suc due) (suc k) left)
+      ≡ shown (at + cond s 1 0) (suc due - cond s 1 0) (suc k) left
+  shown-choose k at due left true true p e =
+      let x : suc at ≡ at + 1 = omega arith in
+      let y : due ≡ suc due - 1 = omega arith in
+      (λ i. shown (x i) (y i) (suc k) left)
+  shown-choose k at due left true false p e = absurd (true≢false (sym e))
+  shown-choose k at due left false b true e =
+      let x : at ≡ at + 0 = omega arith in
+      let y : suc due ≡ suc due - 0 = omega arith in
+      (λ i. shown (x i) (y i) (suc k) left)
+  shown-choose k at due left false b false e = absurd (true≢false (sym e))
 
-and-false : (a : Bool) → (a && false) ≡ false
-and-false true = refl
-and-false false = refl
+  pub shown-step : (k at due : ℕ) → 0 < due → readsOn trace answers body overdrive end k at ≡ true
+      → shown at due k (end - k)
+      ≡ shown (at + bitsIn (getD trace k 0) overdrive) (due - bitsIn (getD trace k 0) overdrive) (k + 1) (end - (k + 1))
+  unfolding shownFrom readsOn bitsIn
+  shown-step k at zero h e = absurd (omega arith)
+  shown-step k at (suc due) h e =
+      let small : k < end = ltb-true k end (and-left (ltb k end) _ e) in
+      let n : end - k ≡ suc (end - suc k) = omega (arith, small) in
+      ap (shown at (suc due) k) n
+      ∙ shown-choose k at due (end - suc k) (slotAt (getD trace k 0) overdrive) (Bool·beq (levelAt answers k) (wantedBit body at)) (passedAt (getD trace k 0) overdrive)
+      (and-right (ltb k end) _ e)
+      ∙ (λ i. shown (at + cond (slotAt (getD trace k 0) overdrive) 1 0) (suc due - cond (slotAt (getD trace k 0) overdrive) 1 0) (sym (add-one k) i) (end - sym (add-one k) i))
 
--- where there are too few slots
-pub bits-short : (answers body : List ℕ) (end k place left : ℕ) → 0 < left → end < k + left → bitsShown answers body end k place left ≡ false
-unfolding bitsShown bitShown
-bits-short answers body end k place zero h few = absurd (omega arith)
-bits-short answers body end k place (suc zero) h few =
-    let e : ltb k end ≡ false = le-ltb k end (omega arith) in
-    rw e
-bits-short answers body end k place (suc (suc left)) h few =
-    let e = bits-short answers body end (suc k) (suc place) (suc left) (omega arith) (omega arith) in
-    ap (λ (b : Bool). bitShown answers end k (bitAt body place) && b) e ∙ and-false (bitShown answers end k (bitAt body place))
+  shown-none : (k at due left : ℕ) (s b p : Bool) → cond s b p ≡ false
+      → cond s (b && shown (suc at) due (suc k) left) (p && shown at (suc due) (suc k) left) ≡ false
+  shown-none k at due left true true p e = absurd (true≢false e)
+  shown-none k at due left true false p e = refl
+  shown-none k at due left false b true e = absurd (true≢false e)
+  shown-none k at due left false b false e = refl
+
+  pub shown-stop : (k at due : ℕ) → 0 < due → readsOn trace answers body overdrive end k at ≡ false → shown at due k (end - k) ≡ false
+  unfolding shownFrom readsOn
+  shown-stop k at zero h e = absurd (omega arith)
+  shown-stop k at (suc due) h e = choose (ltb k end) refl
+    where
+      choose : (x : Bool) → ltb k end ≡ x → shown at (suc due) k (end - k) ≡ false
+      choose true f =
+          let small : k < end = ltb-true k end f in
+          let n : end - k ≡ suc (end - suc k) = omega (arith, small) in
+          ap (shown at (suc due) k) n
+          ∙ shown-none k at due (end - suc k) (slotAt (getD trace k 0) overdrive) (Bool·beq (levelAt answers k) (wantedBit body at)) (passedAt (getD trace k 0) overdrive)
+          (sym (ap (λ (x : Bool). x && cond (slotAt (getD trace k 0) overdrive) (Bool·beq (levelAt answers k) (wantedBit body at)) (passedAt (getD trace k 0) overdrive)) f) ∙ e)
+      choose false f =
+          let n : end - k ≡ 0 = omega (arith, ltb-false k end f) in
+          ap (shown at (suc due) k) n
+
+  pub shown-all : (k at due left : ℕ) → due ≡ 0 → shown at due k left ≡ true
+  unfolding shownFrom
+  shown-all k at due left e = rw e
 
 -- ---- the walk back
 
@@ -182,13 +162,6 @@ laid-length (suc k) image work = length-set (laidUpTo k image work) k _ ∙ laid
 pub laid-step : (k : ℕ) (image work : List ℕ) → set (laidUpTo k image work) k (getD image k 0) ≡ laidUpTo (k + 1) image work
 unfolding laidUpTo
 laid-step k image work = rw add-one
-
--- a read that has too few slots for the registers
-pub read-short : (answers body : List ℕ) (end k : ℕ) → end ≤ k + 24 → readShown answers body end k ≡ false
-unfolding readShown
-read-short answers body end k few =
-    let e = bits-short answers body end (k + 1) (8 * ta1) 24 (lit< tt) (omega (arith, few)) in
-    rw e
 
 -- ---- why a recording is not judged
 

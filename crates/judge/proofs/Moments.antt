@@ -9,21 +9,44 @@ use mathlib.Core.List.{List, [], _∷_, _++_}
 use native.Mathlib.Omega.{arith}
 use lib.ListN.{getD, take}
 use lib.Dec.{eqb, ltb}
-use borrow.Author.Tests.{ltb-true, ltb-false, eqb-true, eqb-false}
+use borrow.Author.Tests.{lt-ltb, le-ltb, eqb-true, eqb-false}
 use Rattle.bits.specs.Bit.{bitAt}
 use Rattle.kind.specs.declared.Kind.{Kind}
 use Rattle.kind.specs.declared.Kind.the-variants as kinds
 use Rattle.kind.specs.Kind.{ta1, scratchpad}
 use Rattle.sram.specs.Sram.{targetOffset}
-use Rattle.line.specs.Transfers.{goesOn, received}
+use Rattle.line.specs.Transfers.{waiting, goesOn, received}
 use Rattle.device.specs.declared.LineState.{LineState}
-use Rattle.device.specs.Device.{resetState, stateAfterSlotAsIs, stageRange}
+use Rattle.device.specs.Device.{lineState, resetState, stateAfterSlotAsIs, stageRange}
+use Rattle.bus.specs.declared.Event.{Event}
+use Rattle.bus.specs.declared.Event.the-variants.{Reset}
+use Rattle.bus.specs.Bus.{Device, deviceWith, eventOf, takenState, hears}
+use Rattle.bus.specs.Loops.{heardStateAsIs, nextStateAsIs}
 use Rattle.judge.specs.declared.Mark.{Mark}
-use Rattle.judge.specs.declared.Mark.the-variants.{Unmarked, Wrote, ReadAfter}
+use Rattle.judge.specs.declared.Mark.the-variants.{Unmarked, Wrote, Reads}
+use Rattle.judge.specs.declared.Part.{Part}
 use Rattle.judge.specs.declared.Back.{Back}
-use Rattle.judge.specs.Rules.{Moment, isSlot, isLast, isMemoryCommand, isWriteAddress, completes, writes, bitsFrom, wantedBits, showsBits, someReadShows, someWrite, shownSinceWrite}
-use Rattle.judge.specs.Loops.{levelAt, markOf, orLater, markOver, bitShown, bitsShown, readShown, wantedBytes, backTo, backBy, backAt, backFrom, carefulBy, carefulAt}
-use Rattle.judge.proofs.Way.{Off, off-next, Alike, same, off, alike-next, wrote, reads, marked, mark-is, off-wrote, off-reads, alike-wrote, alike-reads, off-wrote-next, off-reads-next}
+use Rattle.judge.specs.Rules.{Moment, isSlot, isOverdrive, heardSlot, passedOver, isLast, isMemoryCommand, isWriteAddress, completes, writes, bitsFrom, wantedBits, showsBits, someReadShows, someWrite, shownSinceWrite}
+use Rattle.judge.specs.Loops.{levelAt, slotAt, passedAt, lineNext, wantedBytes, wantedBit, shownFrom, readShown, partSo, partBy, partAt, partOver, backTo, backBy, backAt, backFrom, carefulBy, carefulAt}
+use Rattle.judge.proofs.Way.{Off, off-next, off-speed, Alike, same, alike-speed, hears-speed, event-alike, slot-next, passed-next, wroteIn, readsIn, mark-is, alike-wrote, alike-reads, reads-off, reads-speed, reads-heard}
+
+-- ---- what a device hears
+
+pub reset-event : (byte : ℕ) → eqb byte 2 ≡ true → eventOf byte ≡ Reset
+unfolding eventOf
+reset-event byte e = subst (λ (b : ℕ). eventOf b ≡ Reset) (sym (eqb-true byte 2 e)) refl
+
+pub slot-heard : (x : Moment) (byte : ℕ) → x .event ≡ eventOf byte → takenState (x .device) ≡ x .device .state → heardSlot x ≡ slotAt byte (x .device .state .overdrive)
+unfolding heardSlot slotAt
+slot-heard x byte e t =
+    (λ i. isSlot (e i) && hears (e i) (t i))
+    ∙ ap (λ (b : Bool). isSlot (eventOf byte) && b) (hears-speed (eventOf byte) (x .device .state) (lineState waiting (x .device .state .overdrive)) refl)
+
+over-passed : (x : Moment) (byte : ℕ) → x .event ≡ eventOf byte → takenState (x .device) ≡ x .device .state → passedOver x ≡ passedAt byte (x .device .state .overdrive)
+unfolding passedOver passedAt
+over-passed x byte e t =
+    (λ i. isOverdrive (e i) && not (hears (e i) (t i)))
+    ∙ ap (λ (b : Bool). isOverdrive (eventOf byte) && not b) (hears-speed (eventOf byte) (x .device .state) (lineState waiting (x .device .state .overdrive)) refl)
 
 -- ---- lists of moments
 
@@ -94,15 +117,15 @@ module _ (trace answers : List ℕ) (m : ℕ → Moment) where
   -- up to event k they are those of one device with a scratchpad, each at the recorded level
   pub record WayTo (k size : ℕ) (flat : Bool) : Type 0 where
     pub level-is : (j : ℕ) → j < k → m j .level ≡ levelAt answers j
-    pub slot-is : (j : ℕ) → j < k → eqb (getD trace j 0) 2 ≡ false → isSlot (m j .event) ≡ true
-    pub reset-is : (j : ℕ) → j < k → eqb (getD trace j 0) 2 ≡ true → isSlot (m j .event) ≡ false
+    pub event-is : (j : ℕ) → j < k → m j .event ≡ eventOf (getD trace j 0)
+    pub taken : (j : ℕ) → j < k → takenState (m j .device) ≡ m j .device .state
     pub first-is : 0 < k → eqb (getD trace 0 0) 2 ≡ true
-    pub kind-is : (j : ℕ) → j ≤ k → m j .device .kind ≡ kinds.Sram size flat
     pub code-is : (j : ℕ) → j ≤ k → take 8 (m k .device .body) ≡ take 8 (m j .device .body)
-    pub ranged : (j : ℕ) → j ≤ k → stageRange (m j .device .state .transfer .stage) (kinds.Sram size flat) (m j .device .state .transfer .register) (m j .device .state .transfer .left) ≡ true
-    pub slot-next : (j : ℕ) → j < k → eqb (getD trace j 0) 2 ≡ false
-        → m (suc j) .device .state ≡ stateAfterSlotAsIs (m j .device .state) (kinds.Sram size flat) (m j .device .body) (m j .level)
-    pub reset-next : (j : ℕ) → j < k → eqb (getD trace j 0) 2 ≡ true → m (suc j) .device .state ≡ resetState
+    pub ranged : (j : ℕ) → j ≤ k
+        → stageRange (m j .device .state .transfer .stage) (kinds.Sram size flat) (m j .device .state .overdrive) (m j .device .state .transfer .register) (m j .device .state .transfer .left) ≡ true
+    pub next-is : (j : ℕ) → j < k
+        → m (suc j) .device .state
+        ≡ nextStateAsIs (eventOf (getD trace j 0)) (levelAt answers j) (deviceWith (kinds.Sram size flat) (m j .device .body) (m j .device .state))
 
   module _ (k size : ℕ) (flat : Bool) (way : WayTo k size flat) where
     abbrev K : Kind
@@ -117,210 +140,237 @@ module _ (trace answers : List ℕ) (m : ℕ → Moment) where
     abbrev lv : ℕ → Bool
     lv j = levelAt answers j
 
-    -- what a moment of a slot says
-    writes-is : (j : ℕ) → j < k → eqb (getD trace j 0) 2 ≡ false → writes (m j) ≡ wrote (state j)
+    abbrev byte : ℕ → ℕ
+    byte j = getD trace j 0
+
+    -- what a moment says
+    heard-is : (j : ℕ) → j < k → heardSlot (m j) ≡ slotAt (byte j) (state j .overdrive)
+    heard-is j h = slot-heard (m j) (byte j) (way .event-is j h) (way .taken j h)
+
+    passed-is : (j : ℕ) → j < k → passedOver (m j) ≡ passedAt (byte j) (state j .overdrive)
+    passed-is j h = over-passed (m j) (byte j) (way .event-is j h) (way .taken j h)
+
+    writes-is : (j : ℕ) → j < k → writes (m j) ≡ wroteIn (byte j) (state j)
     unfolding writes isLast
-    writes-is j h s = ap (λ (x : Bool). x && wrote (state j)) (way .slot-is j h s)
+    writes-is j h = ap (λ (x : Bool). x && (isWriteAddress (state j .transfer .stage) && not (goesOn (state j .transfer)))) (heard-is j h)
 
-    reads-is : (j : ℕ) → j < k → eqb (getD trace j 0) 2 ≡ false → completes 0xAA (m j) ≡ reads (state j) (lv j)
+    reads-is : (j : ℕ) → j < k → completes 0xAA (m j) ≡ readsIn (byte j) (state j) (lv j)
     unfolding completes isLast
-    reads-is j h s =
-        ap (λ (x : Bool). x && reads (state j) (m j .level)) (way .slot-is j h s)
-        ∙ ap (reads (state j)) (way .level-is j h)
+    reads-is j h =
+        (λ i. heard-is j h i && (isMemoryCommand (state j .transfer .stage) && (not (goesOn (state j .transfer)) && eqb (received (state j .transfer) (way .level-is j h i)) 0xAA)))
 
-    -- a reset says nothing
-    writes-reset : (j : ℕ) → j < k → eqb (getD trace j 0) 2 ≡ true → writes (m j) ≡ false
+    -- a regular reset says nothing
+    reset-heard : (j : ℕ) → j < k → eqb (byte j) 2 ≡ true → heardSlot (m j) ≡ false
+    unfolding heardSlot isSlot
+    reset-heard j h s =
+        ap (λ (e : Event). isSlot e && hears e (takenState (m j .device))) (way .event-is j h ∙ reset-event (byte j) s)
+
+    reset-passed : (j : ℕ) → j < k → eqb (byte j) 2 ≡ true → passedOver (m j) ≡ false
+    unfolding passedOver isOverdrive
+    reset-passed j h s =
+        ap (λ (e : Event). isOverdrive e && not (hears e (takenState (m j .device)))) (way .event-is j h ∙ reset-event (byte j) s)
+
+    writes-reset : (j : ℕ) → j < k → eqb (byte j) 2 ≡ true → writes (m j) ≡ false
     unfolding writes
-    writes-reset j h s = ap (λ (x : Bool). x && (isWriteAddress (state j .transfer .stage) && isLast (m j .device))) (way .reset-is j h s)
+    writes-reset j h s = ap (λ (x : Bool). x && (isWriteAddress (state j .transfer .stage) && isLast (m j .device))) (reset-heard j h s)
 
-    reads-reset : (j : ℕ) → j < k → eqb (getD trace j 0) 2 ≡ true → completes 0xAA (m j) ≡ false
+    reads-reset : (j : ℕ) → j < k → eqb (byte j) 2 ≡ true → completes 0xAA (m j) ≡ false
     unfolding completes
     reads-reset j h s =
         ap (λ (x : Bool). x && (isMemoryCommand (state j .transfer .stage) && (isLast (m j .device) && eqb (received (state j .transfer) (m j .level)) 0xAA)))
-        (way .reset-is j h s)
+        (reset-heard j h s)
 
-    -- slots only, from j up to e
+    reset-next : (j : ℕ) → j < k → eqb (byte j) 2 ≡ true → state (suc j) ≡ resetState
+    unfolding nextStateAsIs hears heardStateAsIs
+    reset-next j h s =
+        way .next-is j h ∙ ap (λ (e : Event). nextStateAsIs e (lv j) (deviceWith K (m j .device .body) (state j))) (reset-event (byte j) s)
+
+    -- after a slot that the device hears, and after an event that it passes over
+    heard-next : (j : ℕ) → j < k → slotAt (byte j) (state j .overdrive) ≡ true → state (suc j) ≡ stateAfterSlotAsIs (state j) K (m j .device .body) (lv j)
+    unfolding slotAt
+    heard-next j h e = way .next-is j h ∙ slot-next (eventOf (byte j)) (lv j) (deviceWith K (m j .device .body) (state j)) e
+
+    passed-on : (j : ℕ) → j < k → passedAt (byte j) (state j .overdrive) ≡ true → state (suc j) ≡ state j
+    unfolding passedAt
+    passed-on j h e = way .next-is j h ∙ passed-next (eventOf (byte j)) (lv j) (deviceWith K (m j .device .body) (state j)) e
+
+    -- no regular reset from j up to e
     abbrev Slots : ℕ → ℕ → Type 0
-    Slots j e = (i : ℕ) → j ≤ i → i < e → eqb (getD trace i 0) 2 ≡ false
+    Slots j e = (i : ℕ) → j ≤ i → i < e → eqb (byte i) 2 ≡ false
 
-    -- ---- slots that are off
-    module _ (bits : List Bool) (rest : List Moment) where
-      off-slots : (c j : ℕ) → j + c ≤ k → Slots j (j + c) → Off (state j .transfer)
-          → (someWrite (upFrom j c) ≡ false) × (someReadShows bits (upFrom j c ++ rest) ≡ someReadShows bits rest)
-      unfolding upFrom someWrite someReadShows
-      off-slots zero j h s p = (refl, refl)
-      off-slots (suc c) j h s p =
-          let here = s j (omega arith) (omega arith) in
-          let next : Off (state (suc j) .transfer) =
-          subst (λ (x : LineState). Off (x .transfer)) (sym (way .slot-next j (omega arith) here)) (off-next (state j) K (m j .device .body) (m j .level) p) in
-          let more = off-slots c (suc j) (omega (arith, h)) (λ i a b. s i (omega (arith, a)) (omega (arith, b))) next in (
-            ap (λ (x : Bool). x || someWrite (upFrom (suc j) c)) (writes-is j (omega arith) here ∙ off-wrote (state j) p) ∙ more .0,
-            ap (λ (x : Bool). x && showsBits bits (upFrom (suc j) c ++ rest) || someReadShows bits (upFrom (suc j) c ++ rest))
-                (reads-is j (omega arith) here ∙ off-reads (state j) (lv j) p) ∙ more .1,
-          )
-
-      -- ---- one transaction, by its mark
-      abbrev Says : Mark → ℕ → ℕ → Type 0
-      Says Unmarked j c = (someWrite (upFrom j c) ≡ false) × (someReadShows bits (upFrom j c ++ rest) ≡ someReadShows bits rest)
-      Says Wrote j c = (someWrite (upFrom j c ++ rest) ≡ true) × (someWrite rest ≡ false → shownSinceWrite bits (upFrom j c ++ rest) ≡ someReadShows bits rest)
-      Says (ReadAfter p) j c =
-          (j ≤ p) × (p < j + c) × (someWrite (upFrom j c) ≡ false)
-          × (someReadShows bits (upFrom j c ++ rest) ≡ (showsBits bits (upFrom (suc p) (j + c - suc p) ++ rest) || someReadShows bits rest))
-
-      or-left : (a b : Bool) → a ≡ true → (a || b) ≡ true
-      or-left a b e = ap (λ (x : Bool). x || b) e
-
-      -- a slot with no mark before what the others say
-      later : (mark : Mark) (j c : ℕ) → writes (m j) ≡ false → completes 0xAA (m j) ≡ false → Says mark (suc j) c → Says mark j (suc c)
-      unfolding upFrom someWrite someReadShows shownSinceWrite
-      later Unmarked j c w r s = (
-        ap (λ (x : Bool). x || someWrite (upFrom (suc j) c)) w ∙ s .0,
-        ap (λ (x : Bool). x && showsBits bits (upFrom (suc j) c ++ rest) || someReadShows bits (upFrom (suc j) c ++ rest)) r ∙ s .1,
-      )
-      later Wrote j c w r s = (
-        ap (λ (x : Bool). x || someWrite (upFrom (suc j) c ++ rest)) w ∙ s .0,
-        λ none. ap (λ (x : Bool). x && (not (someWrite (upFrom (suc j) c ++ rest)) && someReadShows bits (upFrom (suc j) c ++ rest)) || shownSinceWrite bits (upFrom (suc j) c ++ rest)) w ∙ s .1 none,
-      )
-      later (ReadAfter p) j c w r s =
-          let n : suc j + c ≡ j + suc c = omega arith in (
-            omega (arith, s .0),
-            omega (arith, s .1),
-            ap (λ (x : Bool). x || someWrite (upFrom (suc j) c)) w ∙ s .2,
-            ap (λ (x : Bool). x && showsBits bits (upFrom (suc j) c ++ rest) || someReadShows bits (upFrom (suc j) c ++ rest)) r ∙ s .3
-                ∙ ap (λ (x : ℕ). showsBits bits (upFrom (suc p) (x - suc p) ++ rest) || someReadShows bits rest) n,
-          )
-
-      abbrev OffFacts : ℕ → ℕ → Type 0
-      OffFacts j c = (someWrite (upFrom j c) ≡ false) × (someReadShows bits (upFrom j c ++ rest) ≡ someReadShows bits rest)
-
-      -- a slot, by what it marks, before what the others say
-      turn : (w r : Bool) (j c : ℕ) → writes (m j) ≡ w → completes 0xAA (m j) ≡ r → (w ≡ true → OffFacts (suc j) c) → (r ≡ true → OffFacts (suc j) c)
-          → (mark : Mark) → Says mark (suc j) c → Says (orLater (cond w Wrote (cond r (ReadAfter j) Unmarked)) mark) j (suc c)
-      unfolding upFrom someWrite someReadShows shownSinceWrite orLater
-      turn true r j c ew er fw fr mark s =
-          let f = fw refl in (
-            ap (λ (x : Bool). x || someWrite (upFrom (suc j) c ++ rest)) ew,
-            λ none.
-                let quiet : someWrite (upFrom (suc j) c ++ rest) ≡ false = no-write-append (upFrom (suc j) c) rest (f .0) none in
-                (λ i. ew i && (not (quiet i) && f .1 i) || no-write-none bits (upFrom (suc j) c ++ rest) quiet i)
-                ∙ or-false (someReadShows bits rest),
-          )
-      turn false true j c ew er fw fr mark s =
-          let f = fr refl in
-          let n : c ≡ j + suc c - suc j = omega arith in (
-            omega arith,
-            omega arith,
-            ap (λ (x : Bool). x || someWrite (upFrom (suc j) c)) ew ∙ f .0,
-            (λ i. er i && showsBits bits (upFrom (suc j) c ++ rest) || f .1 i)
-                ∙ ap (λ (x : ℕ). showsBits bits (upFrom (suc j) x ++ rest) || someReadShows bits rest) n,
-          )
-      turn false false j c ew er fw fr mark s = later mark j c ew er s
-
-      nothing-said : (j : ℕ) → Says Unmarked j zero
-      unfolding upFrom someWrite someReadShows
-      nothing-said j = (refl, refl)
-
-      says : (c j : ℕ) (f : LineState) → j + c ≤ k → Slots j (j + c) → Alike f (state j) → Says (markOver answers K body f j c) j c
-      unfolding markOver
-      says zero j f h s a = nothing-said j
-      says (suc c) j f h s a =
-          let here : eqb (getD trace j 0) 2 ≡ false = s j (omega arith) (omega arith) in
-          let on-to : stateAfterSlotAsIs (state j) K (m j .device .body) (lv j) ≡ state (suc j) =
-          ap (stateAfterSlotAsIs (state j) K (m j .device .body)) (sym (way .level-is j (omega arith))) ∙ sym (way .slot-next j (omega arith) here) in
-          let alike : Alike (stateAfterSlotAsIs f K body (lv j)) (state (suc j)) =
-          subst (λ (x : LineState). Alike (stateAfterSlotAsIs f K body (lv j)) x) on-to
-          (alike-next size flat body (m j .device .body) (way .code-is j (omega arith)) f (state j) a (way .ranged j (omega arith)) (lv j)) in
-          let after : Slots (suc j) (suc j + c) = (λ i x y. s i (omega (arith, x)) (omega (arith, y))) in
-          let off-after : Off (stateAfterSlotAsIs (state j) K (m j .device .body) (lv j) .transfer) → OffFacts (suc j) c =
-          (λ p. off-slots c (suc j) (omega (arith, h)) after (subst (λ (x : LineState). Off (x .transfer)) on-to p)) in
-          let w = alike-wrote f (state j) a in
-          let r = alike-reads f (state j) (lv j) a in
-          subst (λ (x : Mark). Says (orLater x (markOver answers K body (stateAfterSlotAsIs f K body (lv j)) (suc j) c)) j (suc c))
-          (sym (mark-is f (lv j) j))
-          (turn (wrote f) (reads f (lv j)) j c (writes-is j (omega arith) here ∙ sym w) (reads-is j (omega arith) here ∙ sym r)
-          (λ e. off-after (off-wrote-next (state j) K (m j .device .body) (lv j) (sym w ∙ e)))
-          (λ e. off-after (off-reads-next (state j) size flat (m j .device .body) (lv j) (sym r ∙ e)))
-          (markOver answers K body (stateAfterSlotAsIs f K body (lv j)) (suc j) c)
-          (says c (suc j) (stateAfterSlotAsIs f K body (lv j)) (omega (arith, h)) after alike))
-
-    -- ---- what a read showed
-
-    -- what follows a transaction: nothing, or a reset
+    -- what follows a part of the trace: nothing, or a regular reset
     abbrev Ends : List Moment → Type 0
     Ends [] = Unit {0}
-    Ends (x ∷ xs) = isSlot (x .event) ≡ false
+    Ends (x ∷ xs) = (heardSlot x ≡ false) × (passedOver x ≡ false)
 
     none-shown : (bit : Bool) (bits : List Bool) (rest : List Moment) → Ends rest → showsBits (bit ∷ bits) rest ≡ false
     unfolding showsBits
     none-shown bit bits [] e = refl
-    none-shown bit bits (x ∷ rest) e = ap (λ (b : Bool). b && (Bool·beq (x .level) bit && showsBits bits rest)) e
+    none-shown bit bits (x ∷ rest) e =
+        (λ i. cond (e .0 i) (Bool·beq (x .level) bit && showsBits bits rest) (e .1 i && showsBits (bit ∷ bits) rest))
 
-    shows-turn : (bit : Bool) (bits : List Bool) (tail : Bool) (rest : List Moment) → Ends rest → (e q : ℕ) → e ≤ k → Slots q e → (x : Bool) → ltb q e ≡ x
-        → showsBits bits (upFrom (suc q) (e - suc q) ++ rest) ≡ tail
-        → showsBits (bit ∷ bits) (upFrom q (e - q) ++ rest) ≡ (bitShown answers e q bit && tail)
-    unfolding showsBits upFrom bitShown
-    shows-turn bit bits tail rest ends e q below s true x ih =
-        let h : q < e = ltb-true q e x in
-        let n : e - q ≡ suc (e - suc q) = omega (arith, h) in
-        ap (λ (c : ℕ). showsBits (bit ∷ bits) (upFrom q c ++ rest)) n
-        ∙ (λ i. way .slot-is q (omega (arith, h, below)) (s q (omega arith) h) i && (Bool·beq (way .level-is q (omega (arith, h, below)) i) bit && ih i))
-        ∙ sym (ap (λ (b : Bool). (b && Bool·beq (lv q) bit) && tail) x)
-    shows-turn bit bits tail rest ends e q below s false x ih =
-        let h : e ≤ q = ltb-false q e x in
-        let n : e - q ≡ 0 = omega (arith, h) in
-        ap (λ (c : ℕ). showsBits (bit ∷ bits) (upFrom q c ++ rest)) n
-        ∙ none-shown bit bits rest ends
-        ∙ sym (ap (λ (b : Bool). (b && Bool·beq (lv q) bit) && tail) x)
+    -- ---- the bits that a read is to show, by their number
+    unfoldable wantedFrom : ℕ → ℕ → List Bool
+    wantedFrom at zero = []
+    wantedFrom at (suc due) = wantedBit body at ∷ wantedFrom (suc at) due
 
-    and-again : (a b c : Bool) → (a && (b && c)) ≡ ((a && b) && c)
-    and-again true b c = refl
-    and-again false b c = refl
+    register-bits : (c at d : ℕ) → at + c ≤ 24 → wantedFrom at (c + d) ≡ bitsFrom (8 * ta1 + at) c body ++ wantedFrom (at + c) d
+    unfolding wantedFrom bitsFrom wantedBit
+    register-bits zero at d h =
+        let x : 0 + d ≡ d = omega arith in
+        let y : at ≡ at + 0 = omega arith in
+        ap (wantedFrom at) x ∙ ap (λ (n : ℕ). wantedFrom n d) y
+    register-bits (suc c) at d h =
+        let x : suc c + d ≡ suc (c + d) = omega arith in
+        let y : suc at + c ≡ at + suc c = omega arith in
+        let z : 8 * ta1 + suc at ≡ suc (8 * ta1 + at) = omega arith in
+        let low : ltb at 24 ≡ true = lt-ltb at 24 (omega (arith, h)) in
+        ap (wantedFrom at) x
+        ∙ (λ i. cond (low i) (bitAt body (8 * ta1 + at)) (bitAt body (8 * (scratchpad + targetOffset body) + (at - 24))) ∷ register-bits c (suc at) d (omega (arith, h)) i)
+        ∙ (λ i. bitAt body (8 * ta1 + at) ∷ (bitsFrom (z i) c body ++ wantedFrom (y i) d))
 
-    shows-run : (more : List Bool) (rest : List Moment) → Ends rest → (e : ℕ) → e ≤ k → (count q place : ℕ) → Slots q e
-        → showsBits (bitsFrom place count body ++ more) (upFrom q (e - q) ++ rest)
-        ≡ (bitsShown answers body e q place count && showsBits more (upFrom (q + count) (e - (q + count)) ++ rest))
-    unfolding bitsFrom bitsShown
-    shows-run more rest ends e below zero q place s =
-        let z : q ≡ q + 0 = omega arith in
-        ap (λ (x : ℕ). showsBits more (upFrom x (e - x) ++ rest)) z
-    shows-run more rest ends e below (suc count) q place s =
-        let z : suc q + count ≡ q + suc count = omega arith in
-        shows-turn (bitAt body place) (bitsFrom (suc place) count body ++ more) _ rest ends e q below s (ltb q e) refl
-        (shows-run more rest ends e below count (suc q) (suc place) (λ i a b. s i (omega (arith, a)) b))
-        ∙ and-again (bitShown answers e q (bitAt body place)) (bitsShown answers body e (suc q) (suc place) count) _
-        ∙ ap (λ (x : ℕ). (bitShown answers e q (bitAt body place) && bitsShown answers body e (suc q) (suc place) count) && showsBits more (upFrom x (e - x) ++ rest)) z
+    byte-bits : (d at : ℕ) → 24 ≤ at → wantedFrom at d ≡ bitsFrom (8 * (scratchpad + targetOffset body) + (at - 24)) d body
+    unfolding wantedFrom bitsFrom wantedBit
+    byte-bits zero at h = refl
+    byte-bits (suc d) at h =
+        let p = 8 * (scratchpad + targetOffset body) in
+        let z : p + (suc at - 24) ≡ suc (p + (at - 24)) = omega (arith, h) in
+        let high : ltb at 24 ≡ false = le-ltb at 24 h in
+        (λ i. cond (high i) (bitAt body (8 * ta1 + at)) (bitAt body (p + (at - 24))) ∷ byte-bits d (suc at) (omega (arith, h)) i)
+        ∙ (λ i. bitAt body (p + (at - 24)) ∷ bitsFrom (z i) d body)
 
-    append-none : (bits : List Bool) → (bits ++ []) ≡ bits
-    append-none [] = refl
-    append-none (b ∷ bits) = ap (λ (l : List Bool). b ∷ l) (append-none bits)
+    wanted-all : wantedFrom 0 (24 + 8 * wantedBytes body) ≡ wantedBits body
+    unfolding wantedBits wantedBytes
+    wanted-all =
+        let p = 8 * (scratchpad + targetOffset body) in
+        let n = 8 * wantedBytes body in
+        let x : 8 * ta1 + 0 ≡ 8 * ta1 = omega arith in
+        let y : p + (0 + 24 - 24) ≡ p = omega arith in
+        register-bits 24 0 n (omega arith)
+        ∙ (λ i. bitsFrom (x i) 24 body ++ byte-bits n (0 + 24) (omega arith) i)
+        ∙ (λ i. bitsFrom (8 * ta1) 24 body ++ bitsFrom (y i) n body)
 
-    and-true : (b : Bool) → (b && true) ≡ b
-    and-true true = refl
-    and-true false = refl
+    read-turn : (x p b s t s′ t′ : Bool) → (x ≡ true → s ≡ s′) → (p ≡ true → t ≡ t′) → cond x (b && s) (p && t) ≡ cond x (b && s′) (p && t′)
+    read-turn true p b s t s′ t′ f g = ap (λ (y : Bool). b && y) (f refl)
+    read-turn false true b s t s′ t′ f g = g refl
+    read-turn false false b s t s′ t′ f g = refl
 
-    nothing-wanted : (ms : List Moment) → showsBits [] ms ≡ true
-    unfolding showsBits
-    nothing-wanted ms = refl
+    -- a device that is off, at its speed, shows what is told by value
+    shows : (rest : List Moment) → Ends rest → (overdrive : Bool) (c at due j : ℕ) → j + c ≤ k → Off (state j .transfer) → state j .overdrive ≡ overdrive
+        → showsBits (wantedFrom at due) (upFrom j c ++ rest) ≡ shownFrom trace answers body overdrive at due j c
+    unfolding showsBits shownFrom wantedFrom upFrom
+    shows rest ends overdrive zero at zero j h p v = refl
+    shows rest ends overdrive zero at (suc due) j h p v = none-shown (wantedBit body at) (wantedFrom (suc at) due) rest ends
+    shows rest ends overdrive (suc c) at zero j h p v = refl
+    shows rest ends overdrive (suc c) at (suc due) j h p v =
+        let small : j < k = omega (arith, h) in
+        let x = slotAt (byte j) overdrive in
+        let y = passedAt (byte j) overdrive in
+        let slot : heardSlot (m j) ≡ x = heard-is j small ∙ ap (slotAt (byte j)) v in
+        let over : passedOver (m j) ≡ y = passed-is j small ∙ ap (passedAt (byte j)) v in
+        let next : x ≡ true → state (suc j) ≡ stateAfterSlotAsIs (state j) K (m j .device .body) (lv j) = (λ e. heard-next j small (ap (slotAt (byte j)) v ∙ e)) in
+        let stay : y ≡ true → state (suc j) ≡ state j = (λ e. passed-on j small (ap (passedAt (byte j)) v ∙ e)) in
+        (λ i. cond (slot i) (Bool·beq (way .level-is j small i) (wantedBit body at) && showsBits (wantedFrom (suc at) due) (upFrom (suc j) c ++ rest))
+        (over i && showsBits (wantedFrom at (suc due)) (upFrom (suc j) c ++ rest)))
+        ∙ read-turn x y (Bool·beq (lv j) (wantedBit body at))
+        (showsBits (wantedFrom (suc at) due) (upFrom (suc j) c ++ rest)) (showsBits (wantedFrom at (suc due)) (upFrom (suc j) c ++ rest))
+        (shownFrom trace answers body overdrive (suc at) due (suc j) c) (shownFrom trace answers body overdrive at (suc due) (suc j) c)
+        (λ e. shows rest ends overdrive c (suc at) due (suc j) (omega (arith, h))
+        (subst (λ (s : LineState). Off (s .transfer)) (sym (next e)) (off-next (state j) K (m j .device .body) (lv j) p))
+        (ap (λ (s : LineState). s .overdrive) (next e) ∙ off-speed (state j) K (m j .device .body) (lv j) p ∙ v))
+        (λ e. shows rest ends overdrive c at (suc due) (suc j) (omega (arith, h))
+        (subst (λ (s : LineState). Off (s .transfer)) (sym (stay e)) p)
+        (ap (λ (s : LineState). s .overdrive) (stay e) ∙ v))
 
-    read-is : (rest : List Moment) → Ends rest → (e : ℕ) → e ≤ k → (p : ℕ) → Slots (suc p) e
-        → showsBits (wantedBits body) (upFrom (suc p) (e - suc p) ++ rest) ≡ readShown answers body e p
-    unfolding wantedBits readShown wantedBytes
-    read-is rest ends e below p s =
-        let place = 8 * (scratchpad + targetOffset body) in
-        let count = 8 * wantedBytes body in
-        let one : suc p ≡ p + 1 = omega arith in
-        let all : suc p + 24 ≡ p + 25 = omega arith in
-        shows-run (bitsFrom place count body) rest ends e below 24 (suc p) (8 * ta1) s
-        ∙ (λ i. bitsShown answers body e (one i) (8 * ta1) 24 && showsBits (sym (append-none (bitsFrom place count body)) i) (upFrom (all i) (e - all i) ++ rest))
-        ∙ ap (λ (b : Bool). bitsShown answers body e (p + 1) (8 * ta1) 24 && b)
-        (shows-run [] rest ends e below count (p + 25) place (λ i a b. s i (omega (arith, a)) b)
-        ∙ ap (λ (b : Bool). bitsShown answers body e (p + 25) place count && b) (nothing-wanted (upFrom (p + 25 + count) (e - (p + 25 + count)) ++ rest))
-        ∙ and-true (bitsShown answers body e (p + 25) place count))
-
-    -- ---- the walk back
+    -- ---- a part of the trace
 
     abbrev wb : List Bool
     wb = wantedBits body
+
+    read-is : (rest : List Moment) → Ends rest → (overdrive : Bool) (c e j : ℕ) → j + suc c ≡ e → e ≤ k → readsIn (byte j) (state j) (lv j) ≡ true → state j .overdrive ≡ overdrive
+        → readShown trace answers body overdrive e (j + 1) ≡ showsBits wb (upFrom (suc j) c ++ rest)
+    unfolding readShown
+    read-is rest ends overdrive c e j n h r v =
+        let small : j < k = omega (arith, h, n) in
+        let next = heard-next j small (reads-heard (byte j) (state j) (lv j) r) in
+        let one : j + 1 ≡ suc j = omega arith in
+        let left : e - suc j ≡ c = omega (arith, n) in
+        (λ i. shownFrom trace answers body overdrive 0 (24 + 8 * wantedBytes body) (one i) (e - one i))
+        ∙ ap (shownFrom trace answers body overdrive 0 (24 + 8 * wantedBytes body) (suc j)) left
+        ∙ sym (shows rest ends overdrive c 0 (24 + 8 * wantedBytes body) (suc j) (omega (arith, n, h))
+        (subst (λ (s : LineState). Off (s .transfer)) (sym next) (reads-off (byte j) (state j) size flat (m j .device .body) (lv j) r))
+        (ap (λ (s : LineState). s .overdrive) next ∙ reads-speed (byte j) (state j) K (m j .device .body) (lv j) r ∙ v))
+        ∙ ap (λ (bits : List Bool). showsBits bits (upFrom (suc j) c ++ rest)) wanted-all
+
+    -- what was shown since the last write, or by any read where there is none
+    abbrev sinceWrite : Bool → List Moment → Bool
+    sinceWrite shown ms = cond (someWrite ms) (shownSinceWrite wb ms) (shown || someReadShows wb ms)
+
+    abbrev Says : Part → Bool → Part → List Moment → Type 0
+    Says after r part ms = (after .wrote ≡ (part .wrote || someWrite ms)) × ((after .shown || r) ≡ sinceWrite (part .shown) ms)
+
+    or-true : (b : Bool) → (b || true) ≡ true
+    or-true true = refl
+    or-true false = refl
+
+    or-more : (a b c : Bool) → ((a || b) || c) ≡ (a || (b || c))
+    or-more true b c = refl
+    or-more false b c = refl
+
+    -- an event, by what it marks, before what the others say
+    turn : (after : Part) (r : Bool) (part : Part) (overdrive : Bool) (e j : ℕ) (x : Moment) (ms : List Moment) (w rd : Bool) → writes x ≡ w → completes 0xAA x ≡ rd
+        → (rd ≡ true → readShown trace answers body overdrive e (j + 1) ≡ showsBits wb ms)
+        → Says after r (partBy trace answers body overdrive e j part (cond w Wrote (cond rd Reads Unmarked))) ms → Says after r part (x ∷ ms)
+    unfolding partBy someWrite someReadShows shownSinceWrite
+    turn after r part overdrive e j x ms true rd ew er read s = (
+      s .0 ∙ sym (ap (λ (b : Bool). part .wrote || (b || someWrite ms)) ew ∙ or-true (part .wrote)),
+      s .1
+          ∙ split (someWrite ms) refl
+          ∙ sym (ap (λ (b : Bool). cond (b || someWrite ms) (b && (not (someWrite ms) && someReadShows wb ms) || shownSinceWrite wb ms) (part .shown || (completes 0xAA x && showsBits wb ms || someReadShows wb ms))) ew),
+    )
+      where
+        split : (z : Bool) → someWrite ms ≡ z
+            → cond z (shownSinceWrite wb ms) (someReadShows wb ms)
+            ≡ (not z && someReadShows wb ms || shownSinceWrite wb ms)
+        split true q = refl
+        split false q = sym (ap (λ (b : Bool). someReadShows wb ms || b) (no-write-none wb ms q) ∙ or-false (someReadShows wb ms))
+    turn after r part overdrive e j x ms false true ew er read s = (
+      s .0 ∙ sym (ap (λ (b : Bool). part .wrote || (b || someWrite ms)) ew),
+      s .1
+          ∙ ap (λ (b : Bool). cond (someWrite ms) (shownSinceWrite wb ms) b)
+          (ap (λ (b : Bool). (part .shown || b) || someReadShows wb ms) (read refl) ∙ or-more (part .shown) (showsBits wb ms) (someReadShows wb ms))
+          ∙ sym (λ i. cond (ew i || someWrite ms) (ew i && (not (someWrite ms) && someReadShows wb ms) || shownSinceWrite wb ms) (part .shown || (er i && showsBits wb ms || someReadShows wb ms))),
+    )
+    turn after r part overdrive e j x ms false false ew er read s = (
+      s .0 ∙ sym (ap (λ (b : Bool). part .wrote || (b || someWrite ms)) ew),
+      s .1
+          ∙ sym (λ i. cond (ew i || someWrite ms) (ew i && (not (someWrite ms) && someReadShows wb ms) || shownSinceWrite wb ms) (part .shown || (er i && showsBits wb ms || someReadShows wb ms))),
+    )
+
+    module _ (rest : List Moment) (ends : Ends rest) (quiet : someWrite rest ≡ false) where
+      says : (c j e : ℕ) (f : LineState) (part : Part) → j + c ≡ e → e ≤ k → Alike f (state j)
+          → Says (partOver trace answers K body e f part j c) (someReadShows wb rest) part (upFrom j c ++ rest)
+      unfolding partOver partAt lineNext upFrom
+      says zero j e f part n h a = (
+        sym (ap (λ (b : Bool). part .wrote || b) quiet ∙ or-false (part .wrote)),
+        sym (ap (λ (b : Bool). cond b (shownSinceWrite wb rest) (part .shown || someReadShows wb rest)) quiet),
+      )
+      says (suc c) j e f part n h a =
+          let small : j < k = omega (arith, n, h) in
+          let g = lineNext trace answers K body j f in
+          let alike : Alike g (state (suc j)) =
+          subst (λ (x : LineState). Alike g x) (sym (way .next-is j small))
+          (event-alike size flat body (m j .device .body) (way .code-is j (omega (arith, small))) (eventOf (byte j)) (lv j) f (state j) a (way .ranged j (omega (arith, small)))) in
+          let w = alike-wrote (byte j) f (state j) a in
+          let r = alike-reads (byte j) f (state j) (lv j) a in
+          let more = says c (suc j) e g (partAt trace answers body e j f part) (omega (arith, n)) h alike in
+          turn (partOver trace answers K body e g (partAt trace answers body e j f part) (suc j) c) (someReadShows wb rest) part (f .overdrive) e j (m j) (upFrom (suc j) c ++ rest)
+          (wroteIn (byte j) f) (readsIn (byte j) f (lv j)) (writes-is j small ∙ sym w) (reads-is j small ∙ sym r)
+          (λ z. read-is rest ends (f .overdrive) c e j n h (sym r ∙ z) (sym (alike-speed f (state j) a)))
+          (subst (λ (x : Mark). Says (partOver trace answers K body e g (partAt trace answers body e j f part) (suc j) c) (someReadShows wb rest) (partBy trace answers body (f .overdrive) e j part x) (upFrom (suc j) c ++ rest))
+          (mark-is (byte j) f (lv j)) more)
+
+    -- ---- the walk back
 
     -- the moments from event e up to the copy
     abbrev since : ℕ → List Moment
@@ -368,57 +418,56 @@ module _ (trace answers : List ℕ) (m : ℕ → Moment) where
     or-swap false true = refl
     or-swap false false = refl
 
-    reset-ends : (j : ℕ) (ms : List Moment) → ms ≡ m j ∷ since (suc j) → isSlot (m j .event) ≡ false → Ends ms
+    reset-ends : (j : ℕ) (ms : List Moment) → ms ≡ m j ∷ since (suc j) → (heardSlot (m j) ≡ false) × (passedOver (m j) ≡ false) → Ends ms
     reset-ends j ms e f = subst Ends (sym e) f
 
-    -- a reset with a transaction after it, which has a mark
-    at-reset : (j e : ℕ) (shown : Bool) → j < e → Slots (suc j) e → eqb (getD trace j 0) 2 ≡ true → At e shown → (mark : Mark) → Says wb (since e) mark (suc j) (e - suc j)
-        → ((s : Bool) → At j s → result j (backTo j s false) ≡ answer)
-        → result j (backBy answers body j (backTo e shown false) mark) ≡ answer
-    unfolding backBy someWrite someReadShows
-    at-reset j e shown h slots here at Unmarked s ih =
-        let small : j < k = omega (arith, h, at .below) in
-        let cut : since j ≡ m j ∷ (upFrom (suc j) (e - suc j) ++ since e) = since-here j small ∙ ap (λ (l : List Moment). m j ∷ l) (since-split j e h (at .below)) in
-        ih shown (record {
-          below = omega (arith, small);
-          ends = reset-ends j (since j) (since-here j small) (way .reset-is j small here);
-          quiet = ap someWrite cut ∙ (λ i. writes-reset j small here i || no-write-append (upFrom (suc j) (e - suc j)) (since e) (s .0) (at .quiet) i);
-          shows = ap (someReadShows wb) cut
-              ∙ (λ i. reads-reset j small here i && showsBits wb (upFrom (suc j) (e - suc j) ++ since e) || s .1 i) ∙ at .shows;
-        })
-    at-reset j e shown h slots here at Wrote s ih =
-        let small : j < k = omega (arith, h, at .below) in
-        let split = since-split j e h (at .below) in
-        decided-stays j j shown
-        ∙ sym (ap (shownSinceWrite wb) (whole j small ∙ ap (λ (l : List Moment). upFrom 0 (suc j) ++ l) split)
-        ∙ write-skip wb (upFrom 0 (suc j)) (upFrom (suc j) (e - suc j) ++ since e) (s .0)
-        ∙ s .1 (at .quiet) ∙ at .shows)
-    at-reset j e shown h slots here at (ReadAfter p) s ih =
-        let small : j < k = omega (arith, h, at .below) in
-        let cut : since j ≡ m j ∷ (upFrom (suc j) (e - suc j) ++ since e) = since-here j small ∙ ap (λ (l : List Moment). m j ∷ l) (since-split j e h (at .below)) in
-        let n : suc j + (e - suc j) - suc p ≡ e - suc p = omega (arith, h) in
-        let read = read-is (since e) (at .ends) e (at .below) p (λ i a b. slots i (omega (arith, a, s .0)) b) in
-        ih (shown || readShown answers body e p) (record {
-          below = omega (arith, small);
-          ends = reset-ends j (since j) (since-here j small) (way .reset-is j small here);
-          quiet = ap someWrite cut ∙ (λ i. writes-reset j small here i || no-write-append (upFrom (suc j) (e - suc j)) (since e) (s .2) (at .quiet) i);
-          shows = ap (someReadShows wb) cut
-              ∙ (λ i. reads-reset j small here i && showsBits wb (upFrom (suc j) (e - suc j) ++ since e) || s .3 i)
-              ∙ (λ i. showsBits wb (upFrom (suc p) (n i) ++ since e) || at .shows i)
-              ∙ ap (λ (b : Bool). b || shown) read
-              ∙ or-swap (readShown answers body e p) shown;
-        })
+    at-before : (j : ℕ) (shown : Bool) → j < k → eqb (byte j) 2 ≡ true → someWrite (since (suc j)) ≡ false → shown ≡ someReadShows wb (since (suc j)) → At j shown
+    unfolding someWrite someReadShows
+    at-before j shown small here q s = record {
+      below = omega (arith, small);
+      ends = reset-ends j (since j) (since-here j small) (reset-heard j small here, reset-passed j small here);
+      quiet = ap someWrite (since-here j small) ∙ (λ i. writes-reset j small here i || q i);
+      shows = ap (someReadShows wb) (since-here j small)
+          ∙ (λ i. reads-reset j small here i && showsBits wb (since (suc j)) || someReadShows wb (since (suc j))) ∙ sym s;
+    }
 
-    back-turn : (j e : ℕ) (shown : Bool) → j < e → Slots (suc j) e → At e shown → (x : Bool) → eqb (getD trace j 0) 2 ≡ x
+    -- a regular reset with a part after it
+    at-reset : (j e : ℕ) (shown : Bool) → j < e → eqb (byte j) 2 ≡ true → At e shown → (after : Part) → Says after shown (partSo false false) (since (suc j))
+        → ((s : Bool) → At j s → result j (backTo j s false) ≡ answer)
+        → result j (backBy j (backTo e shown false) after) ≡ answer
+    unfolding backBy someWrite someReadShows
+    at-reset j e shown h here at after s ih = split (someWrite (since (suc j))) refl
+      where
+        small : j < k
+        small = omega (arith, h, at .below)
+
+        turned : (shown || after .shown) ≡ sinceWrite false (since (suc j))
+        turned = or-swap shown (after .shown) ∙ s .1
+
+        split : (w : Bool) → someWrite (since (suc j)) ≡ w → result j (backTo j (shown || after .shown) (after .wrote)) ≡ answer
+        split true q =
+            ap (λ (b : Bool). result j (backTo j (shown || after .shown) b)) (s .0 ∙ q)
+            ∙ decided-stays j j (shown || after .shown)
+            ∙ turned
+            ∙ ap (λ (b : Bool). cond b (shownSinceWrite wb (since (suc j))) (someReadShows wb (since (suc j)))) q
+            ∙ sym (ap (shownSinceWrite wb) (whole j small) ∙ write-skip wb (upFrom 0 (suc j)) (since (suc j)) q)
+        split false q =
+            ap (λ (b : Bool). result j (backTo j (shown || after .shown) b)) (s .0 ∙ q)
+            ∙ ih (shown || after .shown) (at-before j (shown || after .shown) small here q
+            (turned ∙ ap (λ (b : Bool). cond b (shownSinceWrite wb (since (suc j))) (someReadShows wb (since (suc j)))) q))
+
+    back-turn : (j e : ℕ) (shown : Bool) → j < e → Slots (suc j) e → At e shown → (x : Bool) → eqb (byte j) 2 ≡ x
         → ((e′ : ℕ) (s : Bool) → j ≤ e′ → Slots j e′ → At e′ s → result j (backTo e′ s false) ≡ answer)
-        → result j (cond x (backBy answers body j (backTo e shown false) (markOver answers K body resetState (suc j) (e - suc j))) (backTo e shown false)) ≡ answer
+        → result j (cond x (backBy j (backTo e shown false) (partOver trace answers K body e resetState (partSo false false) (suc j) (e - suc j))) (backTo e shown false)) ≡ answer
     back-turn j e shown h slots at true x ih =
         let small : j < k = omega (arith, h, at .below) in
         let n : suc j + (e - suc j) ≡ e = omega (arith, h) in
-        at-reset j e shown h slots x at (markOver answers K body resetState (suc j) (e - suc j))
-        (says wb (since e) (e - suc j) (suc j) resetState (omega (arith, h, at .below)) (λ i a b. slots i a (omega (arith, b, n)))
-        (same (sym (way .reset-next j small x))))
-        (λ s at′. ih j s (omega arith) (λ i a b. absurd (omega (arith, a, b))) at′)
+        let after = partOver trace answers K body e resetState (partSo false false) (suc j) (e - suc j) in
+        let s = says (since e) (at .ends) (at .quiet) (e - suc j) (suc j) e resetState (partSo false false) n (at .below) (same (sym (reset-next j small x))) in
+        at-reset j e shown h x at after
+        (subst (λ (r : Bool). Says after r (partSo false false) (since (suc j))) (at .shows)
+        (subst (λ (ms : List Moment). Says after (someReadShows wb (since e)) (partSo false false) ms) (sym (since-split j e h (at .below))) s))
+        (λ s′ at′. ih j s′ (omega arith) (λ i a b. absurd (omega (arith, a, b))) at′)
     back-turn j e shown h slots at false x ih =
         ih e shown (omega (arith, h)) (λ i a b. from-here i a b (eqb i j) refl) at
       where

@@ -36,13 +36,13 @@ use Rattle.judge.specs.declared.Rule.the-variants as rules
 use Rattle.judge.specs.declared.Verdict.{Verdict}
 use Rattle.judge.specs.declared.Verdict.the-variants.{Accepted, Broken, Refused}
 use Rattle.judge.specs.declared.Seen.{Seen}
-use Rattle.judge.specs.Rules.{Moment, isSlot, atMemoryCommand, isMemoryCommand, completes, isMade, acceptsCopy, wantedBits, shownSinceWrite, deviceAt, devicesAt, momentAt, momentsOf, breaksA, countBelow, breaksB, breaksC}
+use Rattle.judge.specs.Rules.{Moment, atMemoryCommand, isMemoryCommand, completes, isMade, acceptsCopy, wantedBits, shownSinceWrite, deviceAt, devicesAt, momentAt, momentsOf, breaksA, countBelow, breaksB, breaksC}
 use Rattle.judge.specs.Refusal.{judgeRefusal}
 use Rattle.judge.specs.Judge.{First, none, at, orHere, firstBelow, verdictBy, verdictOf, JudgeOutcome, judgeOutcome, JudgeLeaves, leftByJudge, judgeAt, judgeOf}
-use Rattle.judge.specs.Loops.{levelAt, bodyIn, carelessAt, patternAccepted, carefulAt, doingOf, seenSo, seenBy, seenWith, seenUpTo, nothingSeen, verdictHere, verdictKept, verdictNext, laidUpTo, JudgeState, judgeState, judgeEventAt, judgeEventsUpTo}
+use Rattle.judge.specs.Loops.{levelAt, slotAt, bodyIn, carelessAt, patternAccepted, carefulAt, doingOf, seenSo, seenBy, seenWith, seenUpTo, nothingSeen, verdictHere, verdictKept, verdictNext, laidUpTo, JudgeState, judgeState, judgeEventAt, judgeEventsUpTo}
 use Rattle.judge.proofs.Laws.{judged-room, refused-as-run}
 use Rattle.judge.proofs.Rest.{take-drop, device-q, turns-q}
-use Rattle.judge.proofs.Devices.{carelessBy, plus, seen-stage, careless-stage, accepts-is, completes-is, devices-next, slot-event, still-there, range-at, range-stage, careful-at}
+use Rattle.judge.proofs.Devices.{carelessBy, plus, seen-stage, careless-stage, lastIn, accepts-is, completes-is, devices-next, still-there, range-at, range-stage, careful-at}
 
 -- ---- the verdict of one more event
 
@@ -56,18 +56,18 @@ unfolding verdictKept
 kept-so true j k = refl
 kept-so false j k = refl
 
-verdict-step : (fa fb : First) (a bc : Bool) (isB : ℕ → Bool) (slot : Bool) (seen : Seen) (k : ℕ)
-    → (fa ≡ none → a ≡ false → verdictHere slot seen k ≡ verdictBy none (cond bc (at k) none) isB)
-    → verdictNext (verdictBy fa fb isB) (not a) slot seen k ≡ verdictBy (orHere fa k a) (orHere fb k bc) isB
+verdict-step : (fa fb : First) (a bc : Bool) (isB : ℕ → Bool) (seen : Seen) (k : ℕ)
+    → (fa ≡ none → a ≡ false → verdictHere seen k ≡ verdictBy none (cond bc (at k) none) isB)
+    → verdictNext (verdictBy fa fb isB) (not a) seen k ≡ verdictBy (orHere fa k a) (orHere fb k bc) isB
 unfolding verdictNext verdictBy orHere verdictKept
-verdict-step (at j) fb a bc isB slot seen k here = refl
-verdict-step none (at j) true bc isB slot seen k here = kept-broken (isB j) j k
-verdict-step none (at j) false bc isB slot seen k here = kept-so (isB j) j k
-verdict-step none none true bc isB slot seen k here = refl
-verdict-step none none false bc isB slot seen k here = here refl refl
+verdict-step (at j) fb a bc isB seen k here = refl
+verdict-step none (at j) true bc isB seen k here = kept-broken (isB j) j k
+verdict-step none (at j) false bc isB seen k here = kept-so (isB j) j k
+verdict-step none none true bc isB seen k here = refl
+verdict-step none none false bc isB seen k here = here refl refl
 
 here-cases : (isB : ℕ → Bool) (k : ℕ) (b c : Bool) → isB k ≡ b
-    → cond (true && b) (Broken rules.Command k) (cond (true && c) (Broken rules.Copy k) Accepted) ≡ verdictBy none (cond (b || c) (at k) none) isB
+    → cond b (Broken rules.Command k) (cond c (Broken rules.Copy k) Accepted) ≡ verdictBy none (cond (b || c) (at k) none) isB
 unfolding verdictBy
 here-cases isB k true c e = sym (ap (λ (x : Bool). Broken (cond x rules.Command rules.Copy) k) e)
 here-cases isB k false true e = sym (ap (λ (x : Bool). Broken (cond x rules.Command rules.Copy) k) e)
@@ -234,76 +234,47 @@ module _ (image trace answers rest : List ℕ) (tail : List LineState) (known : 
         entered image known xs d ys (subst (λ (l : List Device). Stand image 0 l) cut (stand k)) (sym (ap length cut) ∙ all-at k) .kind
         ∙ ap (kindAt image) i-is
 
-    no-pulse : (i : ℕ) → i < n → (size : ℕ) (flat : Bool) → deviceAt (es k) i .kind ≡ kinds.Sram size flat → someByte (λ byte. eqb byte 3) trace ≡ false
-    unfolding badPulse
-    no-pulse i h size flat e =
-        first-false (someByte (λ byte. eqb byte 3) trace) _ pulse
-        (some-at (λ j. not (isEprom (kindAt image j))) n i h (ap (λ (x : Kind). not (isEprom x)) (sym (entry-kind i h) ∙ e) ∙ sram-no-eprom size flat))
-
     careful-so : (i : ℕ) → i < n → isSram (deviceAt (es k) i .kind) ≡ true
         → carefulAt trace answers (deviceAt (es k) i .kind) (deviceAt (es k) i .body) k ≡ shownSinceWrite (wantedBits (M i .device .body)) (momentsOf (take k trace) ds i)
     careful-so i h e =
         let s = sram-kind (deviceAt (es k) i .kind) e in
-        careful-at trace answers ds ranged good first i (omega (arith, h, all)) k within agree (s .0) (s .1) (s .2) (no-pulse i h (s .0) (s .1) (s .2))
+        careful-at trace answers ds ranged first i (omega (arith, h, all)) k within agree (s .0) (s .1) (s .2)
 
-    module _ (slot : isSlot (eventOf (getD trace k 0)) ≡ true) where
-      one : (i : ℕ) → i < n → (seen : Seen)
-          → seenWith trace answers (Q k) k i (lineAt (Ls k) i) seen
-          ≡ plus seen (atMemoryCommand (M i .device)) (completes 0x0F (M i) || completes 0x55 (M i)) (isCopy i)
-      unfolding seenWith carelessAt
-      one i h seen =
-          let few : i < length (es k) = omega (arith, h, all-at k) in
-          let d = deviceAt (es k) i in
-          let t = d .state .transfer in
-          let l = levelAt answers k in
-          let v = received t l in
-          let ok = range-at trace answers ds ranged good first i (omega (arith, h, all)) k within agree k in
-          let same-level : l ≡ L k = sym (agree k (omega arith)) in
-          ap (λ (s : LineState). seenBy (doingOf (s .transfer .stage)) (not (goesOn (s .transfer))) (received (s .transfer) l)
-          (λ at same. carelessAt trace answers (Q k) (placeIn (Q k) i) k at same (received (s .transfer) l)) seen) (line-at (es k) tail i few)
-          ∙ seen-stage (t .stage) (not (goesOn t)) v (λ at same. carelessAt trace answers (Q k) (placeIn (Q k) i) k at same v) seen
-          ∙ (λ z. plus seen (isMemoryCommand (t .stage)) (isMemoryCommand (t .stage) && (not (goesOn t) && (eqb v 0x0F || eqb v 0x55)))
-          (carelessBy (doingOf (t .stage)) (not (goesOn t)) (λ at same. patternAccepted at same v (body-found i h z) && not (carefulAt trace answers (kind-found i h z) (body-found i h z) k))))
-          ∙ ap (plus seen (isMemoryCommand (t .stage)) (isMemoryCommand (t .stage) && (not (goesOn t) && (eqb v 0x0F || eqb v 0x55))))
-          (careless-stage (t .stage) (d .kind) (t .register) (t .left) (range-stage d ok) (not (goesOn t)) v (d .body)
-          (carefulAt trace answers (d .kind) (d .body) k) (shownSinceWrite (wantedBits (d .body)) (momentsOf (take k trace) ds i)) (careful-so i h))
-          ∙ ap (λ (x : Bool). plus seen (isMemoryCommand (t .stage)) (isMemoryCommand (t .stage) && (not (goesOn t) && (eqb (received t x) 0x0F || eqb (received t x) 0x55)))
-          ((not (goesOn t) && isMade (stageCopy (t .stage) (d .kind) (received t x) (d .body))) && not (shownSinceWrite (wantedBits (d .body)) (momentsOf (take k trace) ds i)))) same-level
-          ∙ (λ z. plus seen (isMemoryCommand (t .stage)) (sym (completes-is (M i) slot) z)
-          (sym (accepts-is (M i) slot ok) z && not (shownSinceWrite (wantedBits (d .body)) (momentsOf (take k trace) ds i))))
+    one : (i : ℕ) → i < n → (seen : Seen)
+        → seenWith trace answers (Q k) k i (lineAt (Ls k) i) seen
+        ≡ plus seen (atMemoryCommand (M i .device)) (completes 0x0F (M i) || completes 0x55 (M i)) (isCopy i)
+    unfolding seenWith carelessAt
+    one i h seen =
+        let few : i < length (es k) = omega (arith, h, all-at k) in
+        let byte = getD trace k 0 in
+        let d = deviceAt (es k) i in
+        let t = d .state .transfer in
+        let last = lastIn byte (M i) in
+        let l = levelAt answers k in
+        let v = received t l in
+        let ok = range-at trace answers ds ranged first i (omega (arith, h, all)) k within agree k in
+        let same-level : l ≡ L k = sym (agree k (omega arith)) in
+        ap (λ (s : LineState). seenBy (doingOf (s .transfer .stage)) (slotAt byte (s .overdrive) && not (goesOn (s .transfer))) (received (s .transfer) l)
+        (λ at same. carelessAt trace answers (Q k) (placeIn (Q k) i) k at same (received (s .transfer) l)) seen) (line-at (es k) tail i few)
+        ∙ seen-stage (t .stage) last v (λ at same. carelessAt trace answers (Q k) (placeIn (Q k) i) k at same v) seen
+        ∙ (λ z. plus seen (isMemoryCommand (t .stage)) (isMemoryCommand (t .stage) && (last && (eqb v 0x0F || eqb v 0x55)))
+        (carelessBy (doingOf (t .stage)) last (λ at same. patternAccepted at same v (body-found i h z) && not (carefulAt trace answers (kind-found i h z) (body-found i h z) k))))
+        ∙ ap (plus seen (isMemoryCommand (t .stage)) (isMemoryCommand (t .stage) && (last && (eqb v 0x0F || eqb v 0x55))))
+        (careless-stage (t .stage) (d .kind) (d .state .overdrive) (t .register) (t .left) (range-stage d ok) last v (d .body)
+        (carefulAt trace answers (d .kind) (d .body) k) (shownSinceWrite (wantedBits (d .body)) (momentsOf (take k trace) ds i)) (careful-so i h))
+        ∙ ap (λ (x : Bool). plus seen (isMemoryCommand (t .stage)) (isMemoryCommand (t .stage) && (last && (eqb (received t x) 0x0F || eqb (received t x) 0x55)))
+        ((last && isMade (stageCopy (t .stage) (d .kind) (received t x) (d .body))) && not (shownSinceWrite (wantedBits (d .body)) (momentsOf (take k trace) ds i)))) same-level
+        ∙ (λ z. plus seen (isMemoryCommand (t .stage)) (sym (completes-is (M i) byte refl ok) z)
+        (sym (accepts-is (M i) byte refl ok) z && not (shownSinceWrite (wantedBits (d .body)) (momentsOf (take k trace) ds i))))
 
-      seen-is : (i : ℕ) → i ≤ n
-          → seenUpTo trace answers (Q k) (Ls k) k i
-          ≡ seenSo (countBelow i (λ j. atMemoryCommand (M j .device))) (someBelow i (λ j. completes 0x0F (M j) || completes 0x55 (M j))) (someBelow i isCopy)
-      unfolding seenUpTo countBelow someBelow
-      seen-is zero h = refl
-      seen-is (suc i) h =
-          ap (seenWith trace answers (Q k) k i (lineAt (Ls k) i)) (seen-is i (omega (arith, h)))
-          ∙ one i h (seenSo (countBelow i (λ j. atMemoryCommand (M j .device))) (someBelow i (λ j. completes 0x0F (M j) || completes 0x55 (M j))) (someBelow i isCopy))
-
-    -- an event that is not a slot breaks neither B nor C
-    no-completes : (command i : ℕ) → isSlot (eventOf (getD trace k 0)) ≡ false → completes command (M i) ≡ false
-    unfolding completes
-    no-completes command i e = rw e
-
-    no-copy : (i : ℕ) → isSlot (eventOf (getD trace k 0)) ≡ false → isCopy i ≡ false
-    unfolding acceptsCopy
-    no-copy i e = rw e
-
-    no-b : isSlot (eventOf (getD trace k 0)) ≡ false → breaksB trace ds k ≡ false
-    unfolding breaksB
-    no-b e =
-        ap (λ (b : Bool). ltb 1 (countBelow (length ds) (λ i. atMemoryCommand (M i .device))) && b)
-        (some-false (λ i. completes 0x0F (M i) || completes 0x55 (M i)) (λ i. (λ z. no-completes 0x0F i e z || no-completes 0x55 i e z)) (length ds))
-        ∙ and-false (ltb 1 (countBelow (length ds) (λ i. atMemoryCommand (M i .device))))
-      where
-        and-false : (a : Bool) → (a && false) ≡ false
-        and-false true = refl
-        and-false false = refl
-
-    no-c : isSlot (eventOf (getD trace k 0)) ≡ false → breaksC trace ds k ≡ false
-    unfolding breaksC
-    no-c e = some-false isCopy (λ i. no-copy i e) (length ds)
+    seen-is : (i : ℕ) → i ≤ n
+        → seenUpTo trace answers (Q k) (Ls k) k i
+        ≡ seenSo (countBelow i (λ j. atMemoryCommand (M j .device))) (someBelow i (λ j. completes 0x0F (M j) || completes 0x55 (M j))) (someBelow i isCopy)
+    unfolding seenUpTo countBelow someBelow
+    seen-is zero h = refl
+    seen-is (suc i) h =
+        ap (seenWith trace answers (Q k) k i (lineAt (Ls k) i)) (seen-is i (omega (arith, h)))
+        ∙ one i h (seenSo (countBelow i (λ j. atMemoryCommand (M j .device))) (someBelow i (λ j. completes 0x0F (M j) || completes 0x55 (M j))) (someBelow i isCopy))
 
     b-is : breaksB trace ds k ≡ (ltb 1 (countBelow n (λ i. atMemoryCommand (M i .device))) && someBelow n (λ i. completes 0x0F (M i) || completes 0x55 (M i)))
     unfolding breaksB
@@ -313,23 +284,13 @@ module _ (image trace answers rest : List ℕ) (tail : List LineState) (known : 
     unfolding breaksC
     c-is = ap (λ (x : ℕ). someBelow x isCopy) all
 
-    here-by : (x : Bool) → isSlot (eventOf (getD trace k 0)) ≡ x
-        → verdictHere x (seenUpTo trace answers (Q k) (Ls k) k n) k
+    here-is : verdictHere (seenUpTo trace answers (Q k) (Ls k) k n) k
         ≡ verdictBy none (cond (breaksB trace ds k || breaksC trace ds k) (at k) none) (breaksB trace ds)
     unfolding verdictHere
-    here-by true e =
-        ap (λ (s : Seen). verdictHere true s k) (seen-is e n (omega arith))
-        ∙ (λ i. cond (true && sym b-is i) (Broken rules.Command k) (cond (true && sym c-is i) (Broken rules.Copy k) Accepted))
-        ∙ here-cases (breaksB trace ds) k (breaksB trace ds k) (breaksC trace ds k) refl
-    here-by false e =
-        here-cases (breaksB trace ds) k false false (no-b e)
-        ∙ (λ i. verdictBy none (cond (sym (no-b e) i || sym (no-c e) i) (at k) none) (breaksB trace ds))
-
-    here-is : verdictHere (ltb (getD trace k 0) 2) (seenUpTo trace answers (Q k) (Ls k) k n) k
-        ≡ verdictBy none (cond (breaksB trace ds k || breaksC trace ds k) (at k) none) (breaksB trace ds)
     here-is =
-        ap (λ (x : Bool). verdictHere x (seenUpTo trace answers (Q k) (Ls k) k n) k) (sym (slot-event (getD trace k 0)))
-        ∙ here-by (isSlot (eventOf (getD trace k 0))) refl
+        ap (λ (s : Seen). verdictHere s k) (seen-is n (omega arith))
+        ∙ (λ i. cond (sym b-is i) (Broken rules.Command k) (cond (sym c-is i) (Broken rules.Copy k) Accepted))
+        ∙ here-cases (breaksB trace ds) k (breaksB trace ds k) (breaksC trace ds k) refl
 
   -- ---- the events of the trace
 
@@ -338,12 +299,12 @@ module _ (image trace answers rest : List ℕ) (tail : List LineState) (known : 
   Vd k = verdictBy (firstBelow k (breaksA trace answers ds)) (firstBelow k (λ j. breaksB trace ds j || breaksC trace ds j)) (breaksB trace ds)
 
   verdict-is : (k : ℕ) → k < length trace
-      → verdictNext (Vd k) (agreesAt trace answers k (L k)) (ltb (getD trace k 0) 2) (seenUpTo trace answers (Q k) (Ls k) k n) k ≡ Vd (suc k)
+      → verdictNext (Vd k) (agreesAt trace answers k (L k)) (seenUpTo trace answers (Q k) (Ls k) k n) k ≡ Vd (suc k)
   unfolding firstBelow
   verdict-is k h =
-      ap (λ (x : Bool). verdictNext (Vd k) x (ltb (getD trace k 0) 2) (seenUpTo trace answers (Q k) (Ls k) k n) k) (agrees-is k h)
+      ap (λ (x : Bool). verdictNext (Vd k) x (seenUpTo trace answers (Q k) (Ls k) k n) k) (agrees-is k h)
       ∙ verdict-step (firstBelow k (breaksA trace answers ds)) (firstBelow k (λ j. breaksB trace ds j || breaksC trace ds j)) (breaksA trace answers ds k)
-      (breaksB trace ds k || breaksC trace ds k) (breaksB trace ds) (ltb (getD trace k 0) 2) (seenUpTo trace answers (Q k) (Ls k) k n) k
+      (breaksB trace ds k || breaksC trace ds k) (breaksB trace ds) (seenUpTo trace answers (Q k) (Ls k) k n) k
       (λ none-before agrees. here-is k h (λ j below.
       ⊎-elim (λ (s : j ≡ k). level-agrees j (omega (arith, s, h)) (ap (breaksA trace answers ds) s ∙ agrees))
       (λ (l : j < k). level-agrees j (omega (arith, l, h)) (none-below (breaksA trace answers ds) k none-before j l)) (eq-or-lt-of-le below)))
@@ -364,7 +325,7 @@ module _ (image trace answers rest : List ℕ) (tail : List LineState) (known : 
   states-are (suc k) h =
       let byte = getD trace k 0 in
       ap (judgeEventAt trace answers n k) (states-are k (omega (arith, h)))
-      ∙ ap (λ (l : Bool). judgeState (verdictNext (Vd k) (agreesAt trace answers k l) (ltb byte 2) (seenUpTo trace answers (Q k) (Ls k) k n) k)
+      ∙ ap (λ (l : Bool). judgeState (verdictNext (Vd k) (agreesAt trace answers k l) (seenUpTo trace answers (Q k) (Ls k) k n) k)
       (turnsUpTo byte l n (busState (Q k) (Ls k)) .image) (turnsUpTo byte l n (busState (Q k) (Ls k)) .lines))
       (level-is image known tail (es k) (stand k) (all-at k) (in-all k) byte)
       ∙ (λ i. judgeState (verdict-is k h i) (after k h i .image) (after k h i .lines))

@@ -15,13 +15,15 @@ use Rattle.line.specs.declared.MemoryStage.{MemoryStage}
 use Rattle.line.specs.declared.MemoryStage.the-variants as memories
 use Rattle.line.specs.declared.Stage.{Stage}
 use Rattle.line.specs.declared.Stage.the-variants.{Rom, Memory}
-use Rattle.line.specs.Transfers.{goesOn, received}
+use Rattle.line.specs.Transfers.{waiting, goesOn, received}
 use Rattle.sram.specs.Sram.{targetOffset, endingOffset, patternSame}
 use Rattle.device.specs.declared.LineState.{LineState}
-use Rattle.device.specs.Device.{resetState, stateAfterSlotAsIs}
+use Rattle.device.specs.Device.{lineState, waitingState, resetState, stateAfterSlotAsIs}
 use Rattle.recording.specs.Recorded.{agreesAt}
 use Rattle.bus.specs.declared.Place.{Place}
-use Rattle.bus.specs.Loops.{placeIn, lineAt, levelOn, BusState, busState, turnsUpTo}
+use Rattle.bus.specs.Bus.{deviceWith, eventOf, hears}
+use Rattle.bus.specs.Loops.{placeIn, nextStateAsIs, lineAt, levelOn, BusState, busState, turnsUpTo}
+use Rattle.judge.specs.Rules.{isSlot, isOverdrive}
 use Rattle.judge.specs.declared.Rule.{Rule}
 use Rattle.judge.specs.declared.Rule.the-variants as rules
 use Rattle.judge.specs.declared.Verdict.{Verdict}
@@ -29,7 +31,8 @@ use Rattle.judge.specs.declared.Verdict.the-variants.{Accepted, Broken, 
 use Rattle.judge.specs.declared.Doing.{Doing}
 use Rattle.judge.specs.declared.Doing.the-variants.{Command, Address, Pattern, Other}
 use Rattle.judge.specs.declared.Mark.{Mark}
-use Rattle.judge.specs.declared.Mark.the-variants.{Unmarked, Wrote, ReadAfter}
+use Rattle.judge.specs.declared.Mark.the-variants.{Unmarked, Wrote, Reads}
+use Rattle.judge.specs.declared.Part.{Part}
 use Rattle.judge.specs.declared.Back.{Back}
 use Rattle.judge.specs.declared.Seen.{Seen}
 
@@ -61,74 +64,112 @@ unfoldable pub doingOf : Stage → Doing
 doingOf (Rom r) = Other
 doingOf (Memory m) = memoryDoing m
 
--- ---- one transaction of a device, from the slot after a reset on
+-- ---- one device from a regular reset to the next
 
--- A memory command AAh that completes in slot k begins a read, whose first slot is the next one. A write is one with
--- its last address bit.
-unfoldable pub markBy : Doing → Bool → ℕ → ℕ → Mark
-markBy Command last value k = cond (last && eqb value 0xAA) (ReadAfter k) Unmarked
-markBy Address last value k = cond last Wrote Unmarked
-markBy (Pattern at same) last value k = Unmarked
-markBy Other last value k = Unmarked
+-- Event k of a trace at its recorded level leaves a device in this line state.
+unfoldable pub lineNext : List ℕ → List ℕ → Kind → List ℕ → ℕ → LineState → LineState
+lineNext trace answers kind body k state =
+    nextStateAsIs (eventOf (getD trace k 0)) (levelAt answers k) (deviceWith kind body state)
 
-unfoldable pub markOf : LineState → Bool → ℕ → Mark
-markOf state level k =
-    markBy (doingOf (state .transfer .stage)) (not (goesOn (state .transfer))) (received (state .transfer) level) k
+-- The event of a byte is a slot that a device hears, which is at overdrive or not.
+unfoldable pub slotAt : ℕ → Bool → Bool
+slotAt byte overdrive = isSlot (eventOf byte) && hears (eventOf byte) (lineState waiting overdrive)
 
-unfoldable pub isMarked : Mark → Bool
-isMarked Unmarked = false
-isMarked Wrote = true
-isMarked (ReadAfter k) = true
+-- A device at regular speed passes over what comes at overdrive.
+unfoldable pub passedAt : ℕ → Bool → Bool
+passedAt byte overdrive = isOverdrive (eventOf byte) && not (hears (eventOf byte) (lineState waiting overdrive))
 
-unfoldable pub orLater : Mark → Mark → Mark
-orLater Unmarked later = later
-orLater Wrote later = Wrote
-orLater (ReadAfter k) later = ReadAfter k
+-- A slot at the device's own speed is one step of it; of the others a regular one makes it wait.
+unfoldable pub afterSlotAt : LineState → Kind → List ℕ → Bool → Bool → LineState
+afterSlotAt state kind body overdrive level =
+    cond (Bool·beq (state .overdrive) overdrive) (stateAfterSlotAsIs state kind body level)
+    (cond overdrive state waitingState)
 
--- The first mark of the next `left` slots, from slot k on.
-unfoldable pub markOver : List ℕ → Kind → List ℕ → LineState → ℕ → ℕ → Mark
-markOver answers kind body state k zero = Unmarked
-markOver answers kind body state k (suc left) =
-    orLater (markOf state (levelAt answers k) k)
-    (markOver answers kind body (stateAfterSlotAsIs state kind body (levelAt answers k)) (suc k) left)
+-- An event is marked if a memory command AAh completes in it, which begins a read, or if a write has its last address
+-- bit in it.
+unfoldable pub markBy : Doing → Bool → ℕ → Mark
+markBy Command last value = cond (last && eqb value 0xAA) Reads Unmarked
+markBy Address last value = cond last Wrote Unmarked
+markBy (Pattern at same) last value = Unmarked
+markBy Other last value = Unmarked
+
+unfoldable pub markOf : LineState → ℕ → Bool → Mark
+markOf state byte level =
+    markBy (doingOf (state .transfer .stage)) (slotAt byte (state .overdrive) && not (goesOn (state .transfer)))
+    (received (state .transfer) level)
 
 -- ---- what a read showed
-
--- The recorded answer of slot k, which comes before event `end`, is this bit.
-unfoldable pub bitShown : List ℕ → ℕ → ℕ → Bool → Bool
-bitShown answers end k bit = ltb k end && Bool·beq (levelAt answers k) bit
-
--- The answers from slot k on, before event `end`, are so many bits of a body from a place on.
-unfoldable pub bitsShown : List ℕ → List ℕ → ℕ → ℕ → ℕ → ℕ → Bool
-bitsShown answers body end k place zero = true
-bitsShown answers body end k place (suc count) =
-    bitShown answers end k (bitAt body place) && bitsShown answers body end (suc k) (suc place) count
 
 unfoldable pub wantedBytes : List ℕ → ℕ
 wantedBytes body = endingOffset body + 1 - targetOffset body
 
--- A read whose command completed in slot k showed the registers, then the bytes.
-unfoldable pub readShown : List ℕ → List ℕ → ℕ → ℕ → Bool
-readShown answers body end k =
-    bitsShown answers body end (k + 1) (8 * ta1) 24
-    && bitsShown answers body end (k + 25) (8 * (scratchpad + targetOffset body)) (8 * wantedBytes body)
+-- Of the bits that a read is to show, the first 24 are those of the registers, and the others those of the bytes.
+unfoldable pub wantedBit : List ℕ → ℕ → Bool
+wantedBit body at =
+    cond (ltb at 24) (bitAt body (8 * ta1 + at)) (bitAt body (8 * (scratchpad + targetOffset body) + (at - 24)))
+
+-- From event k on, with so many events left, the bits from one on are shown, so many of which are due.
+unfoldable pub shownFrom : List ℕ → List ℕ → List ℕ → Bool → ℕ → ℕ → ℕ → ℕ → Bool
+shownFrom trace answers body overdrive at zero k left = true
+shownFrom trace answers body overdrive at (suc due) k zero = false
+shownFrom trace answers body overdrive at (suc due) k (suc left) =
+    cond (slotAt (getD trace k 0) overdrive)
+    (Bool·beq (levelAt answers k) (wantedBit body at)
+    && shownFrom trace answers body overdrive (suc at) due (suc k) left)
+    (passedAt (getD trace k 0) overdrive
+    && shownFrom trace answers body overdrive at (suc due) (suc k) left)
+
+-- A read goes on in event k, which comes before event `end`, with bit `at`.
+unfoldable pub readsOn : List ℕ → List ℕ → List ℕ → Bool → ℕ → ℕ → ℕ → Bool
+readsOn trace answers body overdrive end k at =
+    ltb k end
+    && cond (slotAt (getD trace k 0) overdrive) (Bool·beq (levelAt answers k) (wantedBit body at))
+    (passedAt (getD trace k 0) overdrive)
+
+unfoldable pub bitsIn : ℕ → Bool → ℕ
+bitsIn byte overdrive = cond (slotAt byte overdrive) 1 0
+
+-- A read whose command completed in the event before k showed the registers, then the bytes, before event `end`.
+unfoldable pub readShown : List ℕ → List ℕ → List ℕ → Bool → ℕ → ℕ → Bool
+readShown trace answers body overdrive end k =
+    shownFrom trace answers body overdrive 0 (24 + 8 * wantedBytes body) k (end - k)
+
+-- ---- the reads and writes of a device in a part of the trace
+
+abbrev pub partSo : Bool → Bool → Part
+partSo wrote shown = record { wrote = wrote; shown = shown }
+
+unfoldable pub partBy : List ℕ → List ℕ → List ℕ → Bool → ℕ → ℕ → Part → Mark → Part
+partBy trace answers body overdrive end k part Unmarked = part
+partBy trace answers body overdrive end k part Wrote = partSo true false
+partBy trace answers body overdrive end k part Reads =
+    partSo (part .wrote) (part .shown || readShown trace answers body overdrive end (k + 1))
+
+unfoldable pub partAt : List ℕ → List ℕ → List ℕ → ℕ → ℕ → LineState → Part → Part
+partAt trace answers body end k state part =
+    partBy trace answers body (state .overdrive) end k part (markOf state (getD trace k 0) (levelAt answers k))
+
+-- The next `left` events, from event k on, leave this part.
+unfoldable pub partOver : List ℕ → List ℕ → Kind → List ℕ → ℕ → LineState → Part → ℕ → ℕ → Part
+partOver trace answers kind body end state part k zero = part
+partOver trace answers kind body end state part k (suc left) =
+    partOver trace answers kind body end (lineNext trace answers kind body k state)
+    (partAt trace answers body end k state part) (suc k) left
 
 -- ---- the walk back from a copy
 
 abbrev pub backTo : ℕ → Bool → Bool → Back
 backTo end shown decided = record { end = end; shown = shown; decided = decided }
 
-unfoldable pub backBy : List ℕ → List ℕ → ℕ → Back → Mark → Back
-backBy answers body j back Unmarked = backTo j (back .shown) false
-backBy answers body j back Wrote = backTo j (back .shown) true
-backBy answers body j back (ReadAfter k) =
-    backTo j (back .shown || readShown answers body (back .end) k) false
+unfoldable pub backBy : ℕ → Back → Part → Back
+backBy j back part = backTo j (back .shown || part .shown) (part .wrote)
 
--- Event j is looked at: a reset begins a transaction, which ends before event `end`.
+-- Event j is looked at: a regular reset begins a part, which ends before event `end`.
 unfoldable pub backAt : List ℕ → List ℕ → Kind → List ℕ → ℕ → Back → Back
 backAt trace answers kind body j back =
     cond (eqb (getD trace j 0) 2)
-    (backBy answers body j back (markOver answers kind body resetState (suc j) (back .end - suc j)))
+    (backBy j back
+    (partOver trace answers kind body (back .end) resetState (partSo false false) (suc j) (back .end - suc j)))
     back
 
 unfoldable pub looksBack : ℕ → Back → Bool
@@ -178,7 +219,8 @@ seenBy Other last value careless seen = seen
 unfoldable pub seenWith : List ℕ → List ℕ → List ℕ → ℕ → ℕ → LineState → Seen → Seen
 seenWith trace answers image k i state seen =
     let value = received (state .transfer) (levelAt answers k) in
-    seenBy (doingOf (state .transfer .stage)) (not (goesOn (state .transfer))) value
+    let last = slotAt (getD trace k 0) (state .overdrive) && not (goesOn (state .transfer)) in
+    seenBy (doingOf (state .transfer .stage)) last value
     (λ at same. carelessAt trace answers image (placeIn image i) k at same value) seen
 
 unfoldable pub seenUpTo : List ℕ → List ℕ → List ℕ → List LineState → ℕ → ℕ → Seen
@@ -189,20 +231,20 @@ seenUpTo trace answers image lines k (suc i) =
 -- ---- the verdict so far
 
 -- The verdict where the answer of event k is as recorded and no rule was broken before.
-unfoldable pub verdictHere : Bool → Seen → ℕ → Verdict
-verdictHere slot seen k =
-    cond (slot && (ltb 1 (seen .commands) && seen .completed)) (Broken rules.Command k)
-    (cond (slot && seen .careless) (Broken rules.Copy k) Accepted)
+unfoldable pub verdictHere : Seen → ℕ → Verdict
+verdictHere seen k =
+    cond (ltb 1 (seen .commands) && seen .completed) (Broken rules.Command k)
+    (cond (seen .careless) (Broken rules.Copy k) Accepted)
 
 unfoldable pub verdictKept : Rule → ℕ → Bool → ℕ → Verdict
 verdictKept rules.Answers event agrees k = Broken rules.Answers event
 verdictKept rules.Command event agrees k = cond agrees (Broken rules.Command event) (Broken rules.Answers k)
 verdictKept rules.Copy event agrees k = cond agrees (Broken rules.Copy event) (Broken rules.Answers k)
 
-unfoldable pub verdictNext : Verdict → Bool → Bool → Seen → ℕ → Verdict
-verdictNext Accepted agrees slot seen k = cond agrees (verdictHere slot seen k) (Broken rules.Answers k)
-verdictNext (Broken rule event) agrees slot seen k = verdictKept rule event agrees k
-verdictNext (Refused number) agrees slot seen k = Refused number
+unfoldable pub verdictNext : Verdict → Bool → Seen → ℕ → Verdict
+verdictNext Accepted agrees seen k = cond agrees (verdictHere seen k) (Broken rules.Answers k)
+verdictNext (Broken rule event) agrees seen k = verdictKept rule event agrees k
+verdictNext (Refused number) agrees seen k = Refused number
 
 -- ---- a trace
 
@@ -227,7 +269,7 @@ judgeEventAt trace answers n k s =
     let level = levelOn (s .lines) n byte in
     let after = turnsUpTo byte level n (busState (s .work) (s .lines)) in
     let seen = seenUpTo trace answers (s .work) (s .lines) k n in
-    judgeState (verdictNext (s .verdict) (agreesAt trace answers k level) (ltb byte 2) seen k)
+    judgeState (verdictNext (s .verdict) (agreesAt trace answers k level) seen k)
     (after .image) (after .lines)
 
 unfoldable pub judgeEventsUpTo : List ℕ → List ℕ → ℕ → ℕ → JudgeState → JudgeState

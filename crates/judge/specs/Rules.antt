@@ -1,5 +1,6 @@
--- Document 02, item 5, is stated here: the rules A, B and C, each at an event of a trace on the devices of a bench, in
--- the words of the run (`Bus.antt` of the crate `bus`). Events are counted from 0.
+-- Document 02, item 5, is stated here, with item 9: the rules A, B and C, each at an event of a trace on the devices of a
+-- bench, in the words of the run (`Bus.antt` of the crate `bus`). Events are counted from 0. A device takes part in an
+-- event only where it hears it.
 use Prim.Native.Nat.{ℕ, zero, suc, _+_, _-_, _*_}
 use mathlib.Core.Bool.{Bool, true, false, not, cond, _&&_, _||_, Bool·beq}
 use mathlib.Core.List.{List, [], _∷_, _++_}
@@ -23,8 +24,8 @@ use Rattle.sram.specs.declared.CopyDone.the-variants.{NoCopy, Made}
 use Rattle.sram.specs.Sram.{targetOffset, endingOffset}
 use Rattle.device.specs.Device.{waitingState, copyInSlot}
 use Rattle.bus.specs.declared.Event.{Event}
-use Rattle.bus.specs.declared.Event.the-variants.{Slot, Reset, Pulse}
-use Rattle.bus.specs.Bus.{Device, deviceWith, eventOf, levelOf, busStep, runTrace}
+use Rattle.bus.specs.declared.Event.the-variants.{Slot, Reset, Pulse, OverdriveSlot, OverdriveReset}
+use Rattle.bus.specs.Bus.{Device, deviceWith, eventOf, takenState, hears, levelOf, busStep, runTrace}
 
 -- ---- one device at one event
 
@@ -38,6 +39,27 @@ unfoldable pub isSlot : Event → Bool
 isSlot (Slot sent) = true
 isSlot Reset = false
 isSlot Pulse = false
+isSlot (OverdriveSlot sent) = true
+isSlot OverdriveReset = false
+
+unfoldable pub isOverdrive : Event → Bool
+isOverdrive (Slot sent) = false
+isOverdrive Reset = false
+isOverdrive Pulse = false
+isOverdrive (OverdriveSlot sent) = true
+isOverdrive OverdriveReset = true
+
+abbrev pub heard : Moment → Bool
+heard m = hears (m .event) (takenState (m .device))
+
+-- The event is a slot, at either speed, and the device hears it.
+unfoldable pub heardSlot : Moment → Bool
+heardSlot m = isSlot (m .event) && heard m
+
+-- A device at regular speed does not hear what comes at overdrive, and stays as it is: the event is passed over. A
+-- regular slot that a device at overdrive does not hear is not, as it makes the device wait.
+unfoldable pub passedOver : Moment → Bool
+passedOver m = isOverdrive (m .event) && not (heard m)
 
 abbrev pub transferOf : Device → Transfer
 transferOf d = d .state .transfer
@@ -46,8 +68,8 @@ transferOf d = d .state .transfer
 unfoldable pub isLast : Device → Bool
 isLast d = not (goesOn (transferOf d))
 
--- A device is at the memory command from the end of its ROM function to the command's last bit. A device whose battery
--- is flat never is.
+-- A device is at the memory command from the end of its ROM function to the command's last bit, whatever its speed. A
+-- device whose battery is flat never is.
 unfoldable pub isCommand : MemoryStage → Bool
 isCommand Command = true
 isCommand (Sram s) = false
@@ -60,10 +82,11 @@ isMemoryCommand (Memory m) = isCommand m
 abbrev pub atMemoryCommand : Device → Bool
 atMemoryCommand d = isMemoryCommand (transferOf d .stage)
 
--- A memory command completes with its last bit: it is the byte that the levels of the line spell.
+-- A memory command completes with its last bit, in a slot that the device hears: it is the byte that the levels of the
+-- line spell.
 unfoldable pub completes : ℕ → Moment → Bool
 completes command m =
-    isSlot (m .event)
+    heardSlot m
     && (atMemoryCommand (m .device)
     && (isLast (m .device) && eqb (received (transferOf (m .device)) (m .level)) command))
 
@@ -90,7 +113,7 @@ isWriteAddress (Rom r) = false
 isWriteAddress (Memory m) = isAddressEnd m
 
 unfoldable pub writes : Moment → Bool
-writes m = isSlot (m .event) && (isWriteAddress (transferOf (m .device) .stage) && isLast (m .device))
+writes m = heardSlot m && (isWriteAddress (transferOf (m .device) .stage) && isLast (m .device))
 
 -- A copy is accepted with the last bit of a pattern that is equal to the registers: the run then makes a copy, be it of
 -- nothing.
@@ -100,7 +123,7 @@ isMade (Made address bytes) = true
 
 unfoldable pub acceptsCopy : Moment → Bool
 acceptsCopy m =
-    isSlot (m .event)
+    heardSlot m
     && isMade (copyInSlot (m .device .state) (m .device .kind) (m .device .body) (m .level))
 
 -- ---- what a read scratchpad is to have shown
@@ -118,11 +141,13 @@ wantedBits body =
     bitsFrom (8 * ta1) 24 body
     ++ bitsFrom (8 * (scratchpad + targetOffset body)) (8 * (endingOffset body + 1 - targetOffset body)) body
 
--- The slots right after a read's command show these bits on the line; it does not matter who sent them.
+-- The slots right after a read's command that the device hears show these bits on the line; it does not matter who sent
+-- them. An event that is passed over does not count, and any other ends the read.
 unfoldable pub showsBits : List Bool → List Moment → Bool
 showsBits [] ms = true
 showsBits (b ∷ bs) [] = false
-showsBits (b ∷ bs) (m ∷ ms) = isSlot (m .event) && (Bool·beq (m .level) b && showsBits bs ms)
+showsBits (b ∷ bs) (m ∷ ms) =
+    cond (heardSlot m) (Bool·beq (m .level) b && showsBits bs ms) (passedOver m && showsBits (b ∷ bs) ms)
 
 -- Some read scratchpad, AAh, shows these bits: any one of them is enough, whatever the later ones show.
 unfoldable pub someReadShows : List Bool → List Moment → Bool

@@ -3,8 +3,8 @@
 //
 // One pass over the trace runs the bench in a lent work space and looks at every device in every event. Only where a
 // device accepts a copy are the events before it looked at again, back to that device's last write. One device's way
-// over the line depends on its code and on the levels alone, so that it is followed by value from the reset that begins
-// a transaction, with the recorded answers as levels, and no second image is needed.
+// over the line depends on its code and on the levels alone, so that it is followed by value from a regular reset, which
+// leaves every device at regular speed, with the recorded answers as levels, and no second image is needed.
 use device::LineState;
 use image::ACCEPTED;
 use kind::Kind;
@@ -13,19 +13,21 @@ use line::SramStage;
 use line::Stage;
 ghost use mathlib.Core.Path.{_≡_};
 ghost use Prim.Native.Nat.{_≤_, _<_, _+_, _-_};
-ghost use mathlib.Core.Bool.{_||_};
-ghost use lib.ListN.{length, getD};
-ghost use lib.Dec.{eqb, ltb};
+ghost use mathlib.Core.Bool.{true, false, cond, _||_};
+ghost use lib.ListN.{length};
+ghost use lib.Dec.{eqb};
 ghost use Rattle.sram.specs.Sram.{targetOffset};
-ghost use Rattle.device.specs.Device.{resetState};
+ghost use Rattle.device.specs.Device.{resetAt, resetState};
 ghost use Rattle.recording.specs.Recorded.{agreesAt};
-ghost use Rattle.bus.specs.Loops.{placeIn};
+ghost use Rattle.bus.specs.Bus.{deviceWith, eventOf};
+ghost use Rattle.bus.specs.Loops.{placeIn, nextStateAsIs};
 ghost use Rattle.judge.specs.Refusal.{judgeRefusal};
 ghost use Rattle.judge.specs.declared.Verdict.the-variants.{Accepted, Refused};
 ghost use Rattle.judge.specs.Judge.{ruleNumber, refusalOf, ruleOf, brokenAt, JudgeLeaves, judgeOf};
-ghost use Rattle.judge.specs.Loops.{levelAt, sramDoing, memoryDoing, doingOf, markBy, markOf, markOver};
-ghost use Rattle.judge.specs.Loops.{bitShown, bitsShown, wantedBytes, readShown, backBy, backAt};
-ghost use Rattle.judge.specs.Loops.{isMarked, looksBack, carefulBy, carefulAt};
+ghost use Rattle.judge.specs.Loops.{levelAt, sramDoing, memoryDoing, doingOf, slotAt, passedAt, afterSlotAt};
+ghost use Rattle.judge.specs.Loops.{lineNext, markBy, markOf, wantedBytes, wantedBit, readsOn, bitsIn, shownFrom};
+ghost use Rattle.judge.specs.Loops.{readShown, partSo, partBy, partAt, partOver, backBy, backAt, looksBack};
+ghost use Rattle.judge.specs.Loops.{carefulBy, carefulAt};
 ghost use Rattle.judge.specs.Loops.{patternAccepted, carelessAt, seenWith, seenUpTo, nothingSeen};
 ghost use Rattle.judge.specs.Loops.{verdictHere, verdictKept, verdictNext, laidUpTo, judgeState};
 ghost use Rattle.judge.specs.Loops.{judgeEventsUpTo};
@@ -56,12 +58,18 @@ enum Doing {
     Other,
 }
 
-// A transaction, which goes from a reset to the next, has no more than one memory command for a device. It is marked if
-// it writes the scratchpad, with the 16th address bit received, or reads it, after a slot.
+// An event is marked if in it a read's command completes, or a write has its 16th address bit.
 enum Mark {
     Unmarked,
     Wrote,
-    ReadAfter(usize),
+    Reads,
+}
+
+// A part of the trace has `wrote` if it has a write, and `shown` if a read after the last of its writes, or any read
+// where it has none, showed what it had to.
+struct Part {
+    wrote: bool,
+    shown: bool,
 }
 
 // The walk back from a copy has come to event `end`. It has `shown` if one of the reads from there on showed what it
@@ -86,7 +94,7 @@ const WRITE_SCRATCHPAD: u8 = 0x0F;
 
 const COPY_SCRATCHPAD: u8 = 0x55;
 
-// The event bytes below this one are slots.
+// This event is the regular reset.
 const RESET: u8 = 2;
 
 // TA1, TA2 and E/S have so many bits.
@@ -137,17 +145,99 @@ fn doing_of(stage: Stage) -> Doing
     }
 }
 
-// ---- one transaction of a device
+// ---- one device at one event of a recording, by value
 
-// Slot k marks the transaction if it is the last of a read's command or of a write's address; `value` is the byte that
-// was received up to it.
-fn mark_by(doing: Doing, last: bool, value: u8, k: usize) -> Mark
-    ensures { λ r. ⌜ r ≡ markBy doing last value k ⌝ }
+// The event is a slot that a device hears, which is at overdrive or not.
+fn is_slot_at(byte: u8, overdrive: bool) -> bool
+    ensures { λ r. ⌜ r ≡ slotAt byte overdrive ⌝ }
+{
+    match byte {
+        0 => !overdrive,
+        1 => !overdrive,
+        2 => false,
+        4 => overdrive,
+        5 => overdrive,
+        6 => false,
+        _ => false,
+    }
+}
+
+// A device at regular speed passes over what comes at overdrive.
+fn is_passed_at(byte: u8, overdrive: bool) -> bool
+    ensures { λ r. ⌜ r ≡ passedAt byte overdrive ⌝ }
+{
+    match byte {
+        0 => false,
+        1 => false,
+        2 => false,
+        4 => !overdrive,
+        5 => !overdrive,
+        6 => !overdrive,
+        _ => false,
+    }
+}
+
+// A slot at the device's own speed is one step of it. Of the others a regular one makes it wait, and one at overdrive
+// leaves it as it is.
+fn after_slot(state: LineState, kind: Kind, body: &[u8], overdrive: bool, level: bool) -> LineState
+    ensures { λ r. ⌜ r ≡ afterSlotAt state kind (now (body .entry)) overdrive level ⌝ }
+{
+    if state.overdrive == overdrive {
+        return state.step_as_is(kind, body, level);
+    }
+    if overdrive {
+        return state;
+    }
+    LineState::waiting()
+}
+
+fn after_overdrive_reset(state: LineState) -> LineState
+    ensures { λ r. ⌜ r ≡ cond (state .overdrive) (resetAt true) state ⌝ }
+{
+    if state.overdrive {
+        return LineState::at_reset(true);
+    }
+    state
+}
+
+// This is the line state after an event at a level, as the bus has it; the body is only read.
+fn after_event(state: LineState, kind: Kind, body: &[u8], byte: u8, level: bool) -> LineState
+    ensures { λ r. ⌜ r ≡ nextStateAsIs (eventOf byte) level (deviceWith kind (now (body .entry)) state) ⌝ }
+{
+    match byte {
+        0 => after_slot(state, kind, body, false, level),
+        1 => after_slot(state, kind, body, false, level),
+        2 => LineState::at_reset(false),
+        4 => after_slot(state, kind, body, true, level),
+        5 => after_slot(state, kind, body, true, level),
+        6 => after_overdrive_reset(state),
+        _ => state.pulsed_as_is(body),
+    }
+}
+
+// This is the line state after event k of a recording.
+fn line_next(
+    trace: &[u8],
+    answers: &[u8],
+    kind: Kind,
+    body: &[u8],
+    k: usize,
+    state: LineState,
+) -> LineState
+    ensures { λ r. ⌜ r ≡ lineNext (now (trace .entry)) (now (answers .entry)) kind (now (body .entry)) k state ⌝ }
+{
+    after_event(state, kind, body, bits::byte_at(trace, k), level_at(answers, k))
+}
+
+// The event is marked if it is the last slot of a read's command or of a write's address; `value` is the byte that was
+// received up to it.
+fn mark_by(doing: Doing, last: bool, value: u8) -> Mark
+    ensures { λ r. ⌜ r ≡ markBy doing last value ⌝ }
 {
     match doing {
         Doing::Command => {
             if last & (value == READ_SCRATCHPAD) {
-                Mark::ReadAfter(k)
+                Mark::Reads
             } else {
                 Mark::Unmarked
             }
@@ -158,73 +248,17 @@ fn mark_by(doing: Doing, last: bool, value: u8, k: usize) -> Mark
     }
 }
 
-fn mark_of(state: LineState, level: bool, k: usize) -> Mark
-    ensures { λ r. ⌜ r ≡ markOf state level k ⌝ }
+fn mark_of(state: LineState, byte: u8, level: bool) -> Mark
+    ensures { λ r. ⌜ r ≡ markOf state byte level ⌝ }
 {
     let transfer = state.transfer;
     let stage = transfer.stage;
-    let last = !state.goes_on();
+    let last = is_slot_at(byte, state.overdrive) & !state.goes_on();
     let value = bits::shift_in(transfer.register, level);
-    mark_by(doing_of(stage), last, value, k)
-}
-
-fn is_marked(mark: Mark) -> bool
-    ensures { λ r. ⌜ r ≡ isMarked mark ⌝ }
-{
-    match mark {
-        Mark::Unmarked => false,
-        Mark::Wrote => true,
-        Mark::ReadAfter(_) => true,
-    }
-}
-
-// This is the mark of a transaction from slot `from`, the first after its reset, up to event `end`. The device is
-// followed by the recorded answers; its body may be that of a later time, as nothing up to the mark depends on more
-// than the code.
-fn mark_in(answers: &[u8], kind: Kind, body: &[u8], from: usize, end: usize) -> Mark
-    ensures { λ r. ⌜ r ≡ markOver (now (answers .entry)) kind (now (body .entry)) resetState from (end - from) ⌝ }
-{
-    let mut state = LineState::at_reset();
-    let mut k = from;
-    while k < end {
-        let level = level_at(answers, k);
-        let mark = mark_of(state, level, k);
-        if is_marked(mark) {
-            return mark;
-        }
-        state = state.step_as_is(kind, body, level);
-        k += 1;
-    }
-    Mark::Unmarked
+    mark_by(doing_of(stage), last, value)
 }
 
 // ---- what a read showed
-
-fn bit_shown(answers: &[u8], end: usize, k: usize, bit: bool) -> bool
-    ensures { λ r. ⌜ r ≡ bitShown (now (answers .entry)) end k bit ⌝ }
-{
-    (k < end) & (level_at(answers, k) == bit)
-}
-
-// This tells whether the recorded answers from slot k on, before event `end`, are the bits of the body from `place` on.
-fn bits_shown(answers: &[u8], body: &[u8], end: usize, k: usize, place: usize, count: usize) -> bool
-    requires { ⌜ place + count < 4294967296 ⌝ }
-    ensures { λ r. ⌜ r ≡ bitsShown (now (answers .entry)) (now (body .entry)) end k place count ⌝ }
-{
-    let mut slot = k;
-    let mut at = place;
-    let mut left = count;
-    while 0 < left {
-        let bit = bits::bit_at(body, at);
-        if !bit_shown(answers, end, slot, bit) {
-            return false;
-        }
-        slot += 1;
-        at += 1;
-        left -= 1;
-    }
-    true
-}
 
 // T4:T0 of the target address are the offset in the scratchpad from which bytes are copied.
 fn first_offset(body: &[u8]) -> u8
@@ -242,62 +276,190 @@ fn wanted_bytes(body: &[u8]) -> u8
     if last < first { 0 } else { last + 1 - first }
 }
 
-// A read whose command completed in slot k showed the registers, then the bytes from T4:T0 through the ending offset,
-// by their values in the body as it is at the copy.
-fn read_shown(answers: &[u8], body: &[u8], end: usize, k: usize) -> bool
-    ensures { λ r. ⌜ r ≡ readShown (now (answers .entry)) (now (body .entry)) end k ⌝ }
+// A read is to show the registers, then the bytes from T4:T0 through the ending offset. This is bit `at` of them, by its
+// value in the body as it is at the copy.
+fn wanted_bit(body: &[u8], at: usize) -> bool
+    requires { ⌜ at < 1024 ⌝ }
+    ensures { λ r. ⌜ r ≡ wantedBit (now (body .entry)) at ⌝ }
 {
+    if at < REGISTER_BITS {
+        return bits::bit_at(body, 8 * kind::TA1 + at);
+    }
+    let place = 8 * (kind::SCRATCHPAD + bits::wide(first_offset(body)));
+    bits::bit_at(body, place + (at - REGISTER_BITS))
+}
+
+// A read of a device, which is at overdrive or not, goes on in event k if this is a slot that it hears and that shows
+// bit `at`, or if it passes over it. Event `end` is past the part of the trace in which the read lies.
+fn reads_on(
+    trace: &[u8],
+    answers: &[u8],
+    body: &[u8],
+    overdrive: bool,
+    end: usize,
+    k: usize,
+    at: usize,
+) -> bool
+    requires { ⌜ at < 1024 ⌝ }
+    ensures { λ r. ⌜ r
+        ≡ readsOn (now (trace .entry)) (now (answers .entry)) (now (body .entry)) overdrive end k at ⌝ }
+{
+    let byte = bits::byte_at(trace, k);
     if end <= k {
         return false;
     }
-    if end - k <= REGISTER_BITS {
-        return false;
+    if is_slot_at(byte, overdrive) {
+        return level_at(answers, k) == wanted_bit(body, at);
     }
-    let registers = bits_shown(answers, body, end, k + 1, 8 * kind::TA1, REGISTER_BITS);
-    if !registers {
-        return false;
-    }
-    let place = 8 * (kind::SCRATCHPAD + bits::wide(first_offset(body)));
-    let count = 8 * bits::wide(wanted_bytes(body));
-    bits_shown(answers, body, end, k + 1 + REGISTER_BITS, place, count)
+    is_passed_at(byte, overdrive)
 }
 
-// ---- the walk back from a copy
+// A slot that the device hears shows one bit, and an event that it passes over shows none.
+fn bits_in(byte: u8, overdrive: bool) -> usize
+    ensures { λ r. ⌜ (r ≡ bitsIn byte overdrive) × (r ≤ 1) ⌝ }
+{
+    if is_slot_at(byte, overdrive) { 1 } else { 0 }
+}
 
-// The transaction that begins with the reset at event j, and ends where the walk has come to, has this mark.
-fn back_by(answers: &[u8], body: &[u8], j: usize, back: Back, mark: Mark) -> Back
-    ensures { λ r. ⌜ r ≡ backBy (now (answers .entry)) (now (body .entry)) j back mark ⌝ }
+// This tells whether the recorded answers from event k on, before event `end`, show as many bits as are due.
+fn bits_shown(
+    trace: &[u8],
+    answers: &[u8],
+    body: &[u8],
+    overdrive: bool,
+    end: usize,
+    k: usize,
+    count: usize,
+) -> bool
+    requires { ⌜ count ≤ 1024 ⌝ }
+    ensures { λ r. ⌜ r ≡ shownFrom (now (trace .entry)) (now (answers .entry)) (now (body .entry)) overdrive 0 count k
+        (end - k) ⌝ }
+{
+    let mut event = k;
+    let mut at: usize = 0;
+    let mut due = count;
+    while 0 < due {
+        if !reads_on(trace, answers, body, overdrive, end, event, at) {
+            return false;
+        }
+        let shown = bits_in(bits::byte_at(trace, event), overdrive);
+        at += shown;
+        due -= shown;
+        event += 1;
+    }
+    true
+}
+
+// A read whose command completed in the event before k showed all that is to be copied.
+fn read_shown(trace: &[u8], answers: &[u8], body: &[u8], overdrive: bool, end: usize, k: usize) -> bool
+    ensures { λ r. ⌜ r
+        ≡ readShown (now (trace .entry)) (now (answers .entry)) (now (body .entry)) overdrive end k ⌝ }
+{
+    let count = REGISTER_BITS + 8 * bits::wide(wanted_bytes(body));
+    bits_shown(trace, answers, body, overdrive, end, k, count)
+}
+
+// ---- the part of a trace from a regular reset to the next
+
+// A write leaves nothing of what was shown before it.
+fn part_by(
+    trace: &[u8],
+    answers: &[u8],
+    body: &[u8],
+    overdrive: bool,
+    end: usize,
+    k: usize,
+    part: Part,
+    mark: Mark,
+) -> Part
+    requires { ⌜ k < 18446744073709551615 ⌝ }
+    ensures { λ r. ⌜ r
+        ≡ partBy (now (trace .entry)) (now (answers .entry)) (now (body .entry)) overdrive end k part mark ⌝ }
 {
     match mark {
-        Mark::Unmarked => Back {
-            end: j,
-            shown: back.shown,
-            decided: false,
+        Mark::Unmarked => part,
+        Mark::Wrote => Part {
+            wrote: true,
+            shown: false,
         },
-        Mark::Wrote => Back {
-            end: j,
-            shown: back.shown,
-            decided: true,
-        },
-        Mark::ReadAfter(k) => {
-            let here = read_shown(answers, body, back.end, k);
-            Back {
-                end: j,
-                shown: back.shown | here,
-                decided: false,
+        Mark::Reads => {
+            let here = read_shown(trace, answers, body, overdrive, end, k + 1);
+            Part {
+                wrote: part.wrote,
+                shown: part.shown | here,
             }
         }
     }
 }
 
-// The walk back looks at event j. Only a reset begins a transaction.
+// Event k, which finds the device in a line state, leaves this part.
+fn part_at(
+    trace: &[u8],
+    answers: &[u8],
+    body: &[u8],
+    end: usize,
+    k: usize,
+    state: LineState,
+    part: Part,
+) -> Part
+    requires { ⌜ k < 18446744073709551615 ⌝ }
+    ensures { λ r. ⌜ r
+        ≡ partAt (now (trace .entry)) (now (answers .entry)) (now (body .entry)) end k state part ⌝ }
+{
+    let mark = mark_of(state, bits::byte_at(trace, k), level_at(answers, k));
+    part_by(trace, answers, body, state.overdrive, end, k, part, mark)
+}
+
+fn empty_part() -> Part
+    ensures { λ r. ⌜ r ≡ partSo false false ⌝ }
+{
+    Part {
+        wrote: false,
+        shown: false,
+    }
+}
+
+// These are the writes and reads of a device from event `from`, the first after a regular reset, up to event `end`. The
+// device is followed by the recorded answers; its body may be that of a later time, as nothing that is marked depends on
+// more than the code.
+fn part_in(trace: &[u8], answers: &[u8], kind: Kind, body: &[u8], from: usize, end: usize) -> Part
+    ensures { λ r. ⌜ r ≡ partOver (now (trace .entry)) (now (answers .entry)) kind (now (body .entry)) end resetState
+        (partSo false false) from (end - from) ⌝ }
+{
+    let mut state = LineState::at_reset(false);
+    let mut part = empty_part();
+    let mut k = from;
+    while k < end {
+        part = part_at(trace, answers, body, end, k, state, part);
+        state = line_next(trace, answers, kind, body, k, state);
+        k += 1;
+    }
+    part
+}
+
+// ---- the walk back from a copy
+
+// The part that begins with the regular reset at event j, and ends where the walk has come to, has these writes and
+// reads.
+fn back_by(j: usize, back: Back, part: Part) -> Back
+    ensures { λ r. ⌜ r ≡ backBy j back part ⌝ }
+{
+    Back {
+        end: j,
+        shown: back.shown | part.shown,
+        decided: part.wrote,
+    }
+}
+
+// The walk back looks at event j. Only a regular reset begins a part, as it leaves every device as every other does; one
+// at overdrive does so only for a device that hears it.
 fn back_at(trace: &[u8], answers: &[u8], kind: Kind, body: &[u8], j: usize, back: Back) -> Back
     requires { ⌜ j < 18446744073709551615 ⌝ }
     ensures { λ r. ⌜ r ≡ backAt (now (trace .entry)) (now (answers .entry)) kind (now (body .entry)) j back ⌝ }
 {
     if bits::byte_at(trace, j) == RESET {
-        let mark = mark_in(answers, kind, body, j + 1, back.end);
-        back_by(answers, body, j, back, mark)
+        let part = part_in(trace, answers, kind, body, j + 1, back.end);
+        back_by(j, back, part)
     } else {
         back
     }
@@ -376,7 +538,7 @@ fn is_write_or_copy(value: u8) -> bool
 }
 
 // In event k device i is looked at, which is in a line state before it. The rules look only at the last slot of a
-// transfer, but every device at the memory command counts.
+// transfer, which the device has to hear, but every device at the memory command counts, whatever its speed.
 fn seen_with(
     trace: &[u8],
     answers: &[u8],
@@ -391,7 +553,7 @@ fn seen_with(
 {
     let transfer = state.transfer;
     let stage = transfer.stage;
-    let last = !state.goes_on();
+    let last = is_slot_at(bits::byte_at(trace, k), state.overdrive) & !state.goes_on();
     let value = bits::shift_in(transfer.register, level_at(answers, k));
     match doing_of(stage) {
         Doing::Command => Seen {
@@ -427,17 +589,17 @@ fn nothing_seen() -> Seen
 
 // ---- the verdict so far
 
-// In event k, whose answer is as recorded, this is the first broken rule, if one is. The rules look at slots only.
-fn verdict_here(slot: bool, seen: Seen, k: usize) -> Verdict
-    ensures { λ r. ⌜ r ≡ verdictHere slot seen k ⌝ }
+// In event k, whose answer is as recorded, this is the first broken rule, if one is.
+fn verdict_here(seen: Seen, k: usize) -> Verdict
+    ensures { λ r. ⌜ r ≡ verdictHere seen k ⌝ }
 {
-    if slot & ((1 < seen.commands) & seen.completed) {
+    if (1 < seen.commands) & seen.completed {
         return Verdict::Broken {
             rule: Rule::Command,
             event: k,
         };
     }
-    if slot & seen.careless {
+    if seen.careless {
         return Verdict::Broken {
             rule: Rule::Copy,
             event: k,
@@ -494,14 +656,13 @@ fn verdict_next(
     k: usize,
     level: bool,
 ) -> Verdict
-    ensures { λ r. ⌜ r ≡ verdictNext verdict (agreesAt (now (trace .entry)) (now (answers .entry)) k level)
-        (ltb (getD (now (trace .entry)) k 0) 2) seen k ⌝ }
+    ensures { λ r. ⌜ r ≡ verdictNext verdict (agreesAt (now (trace .entry)) (now (answers .entry)) k level) seen k ⌝ }
 {
     let agrees = recording::check(trace, answers, k, level);
     match verdict {
         Verdict::Accepted => {
             if agrees {
-                verdict_here(bits::byte_at(trace, k) < RESET, seen, k)
+                verdict_here(seen, k)
             } else {
                 Verdict::Broken {
                     rule: Rule::Answers,
