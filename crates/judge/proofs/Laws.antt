@@ -18,12 +18,13 @@ use Rattle.judge.specs.Refusal.{noJudgeRoom, judgeCauses, judgeRefusal}
 use Rattle.judge.specs.declared.Part.{Part}
 use Rattle.judge.specs.declared.Back.{Back}
 use Rattle.judge.specs.Loops.{levelAt, slotAt, passedAt, lineNext, wantedBit, readsOn, bitsIn, shownFrom, partAt, partOver, laidUpTo}
-use Rattle.bus.specs.Loops.{lineAt, levelOn, busState}
+use Rattle.line.specs.Transfers.{goesOn, received}
+use Rattle.bus.specs.Loops.{placeIn, lineAt, levelOn, busState}
 use Rattle.judge.specs.Loops.{JudgeState, judgeEventAt, judgeEventsUpTo}
 use Rattle.judge.specs.declared.Doing.{Doing}
 use Rattle.judge.specs.declared.Doing.the-variants.{Command, Address, Pattern, Other}
 use Rattle.judge.specs.declared.Seen.{Seen}
-use Rattle.judge.specs.Loops.{doingOf, seenBy, seenWith, seenUpTo}
+use Rattle.judge.specs.Loops.{doingOf, carelessAt, seenBy, seenWith, seenUpTo}
 use Rattle.judge.specs.Loops.{looksBack, backAt, backFrom}
 
 -- ---- the part of a trace
@@ -62,6 +63,21 @@ module _ (trace answers body : List ℕ) (overdrive : Bool) (end : ℕ) where
   pub reads-before : (k at : ℕ) → readsOn trace answers body overdrive end k at ≡ true → k < end
   unfolding readsOn
   reads-before k at e = ltb-true k end (and-left (ltb k end) _ e)
+
+  pub reads-late : (k at : ℕ) → end ≤ k → readsOn trace answers body overdrive end k at ≡ false
+  unfolding readsOn
+  reads-late k at h =
+      ap (λ (x : Bool). x && cond (slotAt (getD trace k 0) overdrive) (Bool·beq (levelAt answers k) (wantedBit body at)) (passedAt (getD trace k 0) overdrive)) (le-ltb k end h)
+
+  pub reads-slot : (k at : ℕ) → k < end → slotAt (getD trace k 0) overdrive ≡ true → readsOn trace answers body overdrive end k at ≡ Bool·beq (levelAt answers k) (wantedBit body at)
+  unfolding readsOn
+  reads-slot k at h e =
+      (λ i. lt-ltb k end h i && cond (e i) (Bool·beq (levelAt answers k) (wantedBit body at)) (passedAt (getD trace k 0) overdrive))
+
+  pub reads-passed : (k at : ℕ) → k < end → slotAt (getD trace k 0) overdrive ≡ false → readsOn trace answers body overdrive end k at ≡ passedAt (getD trace k 0) overdrive
+  unfolding readsOn
+  reads-passed k at h e =
+      (λ i. lt-ltb k end h i && cond (e i) (Bool·beq (levelAt answers k) (wantedBit body at)) (passedAt (getD trace k 0) overdrive))
 
   shown-choose : (k at due left : ℕ) (s b p : Bool) → cond s b p ≡ true
       → cond s (b && shown (suc at) due (suc k) left) (p && shown at (suc due) (suc k) left)
@@ -212,7 +228,7 @@ module _ (image trace : List ℕ) (answers work lines : ℕ) where
   unfolding judgeRefusal judgeCauses imageRefusal imageCauses firstCause noJudgeRoom
   judge-chain h = first-none (imageCauses image)
       (cause 5 (badTrace trace) ∷ cause 11 (noFirstReset trace) ∷ cause 6 (badPulse image trace)
-      ∷ cause 7 (noJudgeRoom image trace answers work lines) ∷ []) (lit< tt, (lit< tt, (lit< tt, (lit< tt, tt)))) h
+      ∷ cause 7 (noJudgeRoom image trace answers work lines) ∷ []) (lit< tt, (lit< tt, (lit< tt, (lit< tt, (lit< tt, tt))))) h
 
   -- what the run refuses is refused
   pub refused-as-run : (run-number ≡ 0 → ⊥) → judgeRefusal image trace answers work lines ≡ run-number
@@ -243,6 +259,14 @@ doing-few Command last value careless seen i h = omega (arith, h)
 doing-few Address last value careless seen i h = omega (arith, h)
 doing-few (Pattern at same) last value careless seen i h = omega (arith, h)
 doing-few Other last value careless seen i h = omega (arith, h)
+
+-- what is seen of a device, by what is known of it
+pub seen-so : (trace answers image : List ℕ) (k i : ℕ) (state : LineState) (seen : Seen) (doing : Doing) (last : Bool) (value : ℕ) → doingOf (state .transfer .stage) ≡ doing
+    → (slotAt (getD trace k 0) (state .overdrive) && not (goesOn (state .transfer))) ≡ last → received (state .transfer) (levelAt answers k) ≡ value
+    → seenWith trace answers image k i state seen ≡ seenBy doing last value (λ at same. carelessAt trace answers image (placeIn image i) k at same value) seen
+unfolding seenWith
+seen-so trace answers image k i state seen doing last value d l v =
+    (λ j. seenBy (d j) (l j) (v j) (λ at same. carelessAt trace answers image (placeIn image i) k at same (v j)) seen)
 
 -- of i devices no more than i are at the memory command
 pub seen-few : (trace answers image : List ℕ) (lines : List LineState) (k i : ℕ) → seenUpTo trace answers image lines k i .commands ≤ i

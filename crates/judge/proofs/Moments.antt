@@ -50,10 +50,6 @@ over-passed x byte e t =
 
 -- ---- lists of moments
 
-append-end : (xs : List Moment) → (xs ++ []) ≡ xs
-append-end [] = refl
-append-end (x ∷ xs) = ap (λ (l : List Moment). x ∷ l) (append-end xs)
-
 no-write-none : (bits : List Bool) (ms : List Moment) → someWrite ms ≡ false → shownSinceWrite bits ms ≡ false
 unfolding someWrite shownSinceWrite
 no-write-none bits [] e = refl
@@ -85,15 +81,6 @@ write-skip bits (p ∷ ps) ms e =
     drop-and : (w s : Bool) → (w && false || s) ≡ s
     drop-and true s = refl
     drop-and false s = refl
-
-no-write-append : (ps ms : List Moment) → someWrite ps ≡ false → someWrite ms ≡ false → someWrite (ps ++ ms) ≡ false
-unfolding someWrite
-no-write-append [] ms e e′ = e′
-no-write-append (p ∷ ps) ms e e′ = split (writes p) e (λ f. no-write-append ps ms f e′)
-  where
-    split : (w : Bool) → (w || someWrite ps) ≡ false → (someWrite ps ≡ false → someWrite (ps ++ ms) ≡ false) → (w || someWrite (ps ++ ms)) ≡ false
-    split true e more = absurd (true≢false e)
-    split false e more = more e
 
 -- ---- the way of one device
 

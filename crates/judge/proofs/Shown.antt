@@ -93,11 +93,6 @@ none-below p (suc k) e j h =
     let f = none-here (firstBelow k p) k (p k) e in
     ⊎-elim (λ (s : j ≡ k). subst (λ (x : ℕ). p x ≡ false) (sym s) (f .1)) (λ (l : j < k). none-below p k (f .0) j l) (eq-or-lt-of-le (omega (arith, h)))
 
-some-false : (p : ℕ → Bool) → ((i : ℕ) → p i ≡ false) → (n : ℕ) → someBelow n p ≡ false
-unfolding someBelow
-some-false p f zero = refl
-some-false p f (suc n) = (λ i. some-false p f n i || f n i)
-
 not-not : (b : Bool) → b ≡ not (not b)
 not-not true = refl
 not-not false = refl
@@ -112,14 +107,6 @@ unfolding isSram
 sram-kind (kinds.Sram size flat) e = (size, flat, refl)
 sram-kind kinds.Eprom e = absurd (true≢false (sym e))
 sram-kind kinds.Unknown e = absurd (true≢false (sym e))
-
-sram-no-eprom : (size : ℕ) (flat : Bool) → not (isEprom (kinds.Sram size flat)) ≡ true
-unfolding isEprom
-sram-no-eprom size flat = refl
-
-first-false : (a b : Bool) → (a && b) ≡ false → b ≡ true → a ≡ false
-first-false true b e f = absurd (true≢false (sym f ∙ e))
-first-false false b e f = refl
 
 -- the answer of event k
 once-answer : (byte : ℕ) (t : List ℕ) (es : List Device) → runTrace (byte ∷ t) es .answers ≡ levelByte (levelOf (eventOf byte) es) ∷ runTrace t (busStep (eventOf byte) es .devices) .answers
@@ -221,18 +208,6 @@ module _ (image trace answers rest : List ℕ) (tail : List LineState) (known : 
     body-found : (i : ℕ) → i < n → bodyIn (Q k) (placeIn (Q k) i) ≡ deviceAt (es k) i .body
     unfolding deviceIn deviceAtPlace
     body-found i h = ap (λ (d : Device). d .body) (found i h)
-
-    -- its entry has its kind
-    entry-kind : (i : ℕ) → i < n → deviceAt (es k) i .kind ≡ kindAt image i
-    entry-kind i h =
-        let few : i < length (es k) = omega (arith, h, all-at k) in
-        let d = deviceAt (es k) i in
-        let xs = take i (es k) in
-        let ys = drop (suc i) (es k) in
-        let cut : es k ≡ xs ++ d ∷ ys = take-drop (es k) i few in
-        let i-is : length xs ≡ i = length-take-le i (es k) (omega (arith, few)) in
-        entered image known xs d ys (subst (λ (l : List Device). Stand image 0 l) cut (stand k)) (sym (ap length cut) ∙ all-at k) .kind
-        ∙ ap (kindAt image) i-is
 
     careful-so : (i : ℕ) → i < n → isSram (deviceAt (es k) i .kind) ≡ true
         → carefulAt trace answers (deviceAt (es k) i .kind) (deviceAt (es k) i .body) k ≡ shownSinceWrite (wantedBits (M i .device .body)) (momentsOf (take k trace) ds i)

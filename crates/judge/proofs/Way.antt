@@ -40,7 +40,7 @@ use Rattle.bus.specs.Loops.{heardStateAsIs, nextStateAsIs}
 use Rattle.judge.specs.declared.Mark.{Mark}
 use Rattle.judge.specs.declared.Mark.the-variants.{Unmarked, Wrote, Reads}
 use Rattle.judge.specs.Rules.{isSlot, isOverdrive, isCommand, isMemoryCommand, isHighByte, isAddressEnd, isWriteAddress}
-use Rattle.judge.specs.Loops.{sramDoing, memoryDoing, doingOf, slotAt, markBy, markOf}
+use Rattle.judge.specs.Loops.{sramDoing, memoryDoing, doingOf, slotAt, afterSlotAt, markBy, markOf}
 
 -- ---- the ROM stage depends on the code alone
 
@@ -380,6 +380,31 @@ slot-next Reset level d e = absurd (true≢false (sym e))
 slot-next Pulse level d e = absurd (true≢false (sym e))
 slot-next (OverdriveSlot sent) level d e = ap (λ (x : Bool). cond x (stateAfterSlotAsIs (d .state) (d .kind) (d .body) level) (d .state)) e
 slot-next OverdriveReset level d e = absurd (true≢false (sym e))
+
+-- the next line state by value, in a slot at either speed
+pub after-unheard : (state : LineState) (kind : Kind) (body : List ℕ) (overdrive level : Bool) → Bool·beq (state .overdrive) overdrive ≡ false
+    → afterSlotAt state kind body overdrive level ≡ cond overdrive state waitingState
+unfolding afterSlotAt
+after-unheard state kind body overdrive level e =
+    ap (λ (x : Bool). cond x (stateAfterSlotAsIs state kind body level) (cond overdrive state waitingState)) e
+
+pub after-regular : (sent level : Bool) (d : Device) → afterSlotAt (d .state) (d .kind) (d .body) false level ≡ nextStateAsIs (Slot sent) level d
+unfolding afterSlotAt hears nextStateAsIs heardStateAsIs unheardState
+after-regular sent level d = choose (d .state .overdrive)
+  where
+    choose : (x : Bool) → cond (Bool·beq x false) (stateAfterSlotAsIs (d .state) (d .kind) (d .body) level) waitingState
+        ≡ cond (not x) (stateAfterSlotAsIs (d .state) (d .kind) (d .body) level) waitingState
+    choose true = refl
+    choose false = refl
+
+pub after-overdrive : (sent level : Bool) (d : Device) → afterSlotAt (d .state) (d .kind) (d .body) true level ≡ nextStateAsIs (OverdriveSlot sent) level d
+unfolding afterSlotAt hears nextStateAsIs heardStateAsIs unheardState
+after-overdrive sent level d = choose (d .state .overdrive)
+  where
+    choose : (x : Bool) → cond (Bool·beq x true) (stateAfterSlotAsIs (d .state) (d .kind) (d .body) level) (d .state)
+        ≡ cond x (stateAfterSlotAsIs (d .state) (d .kind) (d .body) level) (d .state)
+    choose true = refl
+    choose false = refl
 
 pub passed-next : (event : Event) (level : Bool) (d : Device) → (isOverdrive event && not (hears event (lineState waiting (d .state .overdrive)))) ≡ true
     → nextStateAsIs event level d ≡ d .state

@@ -9,11 +9,11 @@ use Rattle.judge.proofs.back_at.Tie as tie
 byte-at-requires : tie.Need-byte-at-requires
 byte-at-requires c κs = search needs
 
-add-mark-in : tie.Need-add-mark-in
-add-mark-in c = search needs
+add-part-in : tie.Need-add-part-in
+add-part-in c = search needs
 
-mark-in-requires : tie.Need-mark-in-requires
-mark-in-requires c κs = search needs
+part-in-requires : tie.Need-part-in-requires
+part-in-requires c κs = search needs
 
 back-by-requires : tie.Need-back-by-requires
 back-by-requires c κs = search needs
@@ -23,7 +23,7 @@ unfolding backAt
 returns c =
     let a = c .before .before .before .before .before .before .before .args in
     let here = eq-eqb _ _ (sym (c .before .before .before .byte-at .ensures) ∙ c .before .before .if1 .taken) in
-    simp (here, ← add-one (a .j)) (c .back-by .ensures ∙ ap (backBy (a .answers .now) (a .body .now) (a .j) (a .back)) (c .before .mark-in .ensures))
+    simp (here, ← add-one (a .j)) (c .back-by .ensures ∙ ap (backBy (a .j) (a .back)) (c .before .part-in .ensures))
 
 returns-2 : tie.Need-returns-2
 unfolding backAt
@@ -34,4 +34,4 @@ returns-2 c =
 pub back-at-spec : {M : Type 1} → statement M
 back-at-spec =
     tie.close
-    (tie.spec byte-at-requires add-mark-in mark-in-requires back-by-requires returns returns-2)
+    (tie.spec byte-at-requires add-part-in part-in-requires back-by-requires returns returns-2)

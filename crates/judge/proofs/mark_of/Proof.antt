@@ -3,6 +3,9 @@ use borrow.Author.Needs.{needs}
 use Rattle.judge.proofs.mark_of.Statement.{statement}
 use Rattle.judge.proofs.mark_of.Tie as tie
 
+is-slot-at-requires : tie.Need-is-slot-at-requires
+is-slot-at-requires c κs = search needs
+
 goes-on-requires : tie.Need-goes-on-requires
 goes-on-requires c κs = search needs
 
@@ -17,9 +20,15 @@ mark-by-requires c κs = search needs
 
 returns : tie.Need-returns
 unfolding markOf
-returns c = simp (c .mark-by .ensures, c .before .doing-of .ensures, c .before .before .shift-in .ensures, c .before .before .before .goes-on .ensures)
+returns c = simp (c .mark-by .ensures, c .before .doing-of .ensures, c .before .before .shift-in .ensures, c .before .before .before .goes-on .ensures, c .before .before .before .before .is-slot-at .ensures)
 
 pub mark-of-spec : {M : Type 1} → statement M
 mark-of-spec =
     tie.close
-    (tie.spec goes-on-requires shift-in-requires doing-of-requires mark-by-requires returns)
+    (tie.spec
+    is-slot-at-requires
+    goes-on-requires
+    shift-in-requires
+    doing-of-requires
+    mark-by-requires
+    returns)

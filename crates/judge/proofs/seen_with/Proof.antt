@@ -1,11 +1,20 @@
-use mathlib.Core.Bool.{or-false}
+use Rattle.judge.proofs.Laws.{seen-so}
+use Rattle.judge.specs.Loops.{slotAt, seenSo, seenBy}
 use Rattle.line.specs.Transfers.{goesOn, received}
 use borrow.Author.Tests.{not-true, not-false}
-use mathlib.Core.Path.{sym, ap, _∙_}
-use Rattle.judge.specs.Loops.{seenWith, seenBy, levelAt}
+use lib.ListN.{getD}
+use Prim.Native.Nat.{ℕ, _+_}
+use mathlib.Core.Bool.{Bool, not, _&&_, _||_, or-false}
+use mathlib.Core.Path.{_≡_, refl, sym, ap, _∙_}
 use borrow.Author.Needs.{needs}
 use Rattle.judge.proofs.seen_with.Statement.{statement}
 use Rattle.judge.proofs.seen_with.Tie as tie
+
+byte-at-requires : tie.Need-byte-at-requires
+byte-at-requires c κs = search needs
+
+is-slot-at-requires : tie.Need-is-slot-at-requires
+is-slot-at-requires c κs = search needs
 
 goes-on-requires : tie.Need-goes-on-requires
 goes-on-requires c κs = search needs
@@ -22,8 +31,8 @@ doing-of-requires c κs = search needs
 enum-told : tie.Need-enum-told
 enum-told c = search needs
 
-add-t18 : tie.Need-add-t18
-add-t18 c = search needs
+add-t21 : tie.Need-add-t21
+add-t21 c = search needs
 
 is-write-or-copy-requires : tie.Need-is-write-or-copy-requires
 is-write-or-copy-requires c κs = search needs
@@ -35,9 +44,16 @@ enum-known-at : tie.Need-enum-known-at
 enum-known-at c = search needs
 
 returns : tie.Need-returns
-unfolding seenWith seenBy
+unfolding seenBy
 returns c =
-    simp (sym (c .before .before .before .before .doing-of .ensures) ∙ c .before .before .at .given .1, sym (c .before .before .before .before .before .before .before .goes-on .ensures) ∙ not-false _ (not-true _ (c .if1 .taken)), or-false)
+    let a = c .before .before .before .before .before .before .before .before .before .before .before .before .before .before .args in
+    let d = c .before .before .before .before in
+    let byte = c .before .before .before .before .before .before .before .before .before .byte-at .ensures in
+    let l : (c .before .before .before .before .before .before .before .before .is-slot-at .result && not (c .before .before .before .before .before .before .before .goes-on .result)) ≡ (slotAt (getD (a .trace .now) (a .k) 0) (a .state .overdrive) && not (goesOn (a .state .transfer))) =
+    (λ i. (c .before .before .before .before .before .before .before .before .is-slot-at .ensures ∙ ap (λ (b : ℕ). slotAt b (a .state .overdrive)) byte) i && not (c .before .before .before .before .before .before .before .goes-on .ensures i)) in
+    let v = c .before .before .before .before .before .shift-in .ensures ∙ ap (received (a .state .transfer)) (c .before .before .before .before .before .before .level-at .ensures) in
+    (λ i. seenSo (a .seen .commands) (a .seen .completed) (sym (or-false (a .seen .careless)) i))
+    ∙ sym (seen-so (a .trace .now) (a .answers .now) (a .image .now) (a .k) (a .i) (a .state) (a .seen) _ _ _ (sym (d .doing-of .ensures) ∙ c .before .before .at .given .1) (sym l ∙ not-true _ (c .if1 .taken)) refl)
 
 is-careless-requires : tie.Need-is-careless-requires
 is-careless-requires c κs = search needs
@@ -46,35 +62,53 @@ enum-told-3 : tie.Need-enum-told-3
 enum-told-3 c = search needs
 
 returns-2 : tie.Need-returns-2
-unfolding seenWith seenBy
+unfolding seenBy
 returns-2 c =
-    simp (sym (c .before .before .before .before .before .doing-of .ensures) ∙ c .before .before .before .enum-told .given .1, c .before .is-write-or-copy .ensures, c .before .before .before .before .before .before .shift-in .ensures, c .before .before .before .before .before .before .before .level-at .ensures, c .before .before .before .before .before .before .before .before .goes-on .ensures)
+    let a = c .before .before .before .before .before .before .before .before .before .before .before .before .before .before .before .args in
+    let d = c .before .before .before .before .before in
+    let byte = c .before .before .before .before .before .before .before .before .before .before .byte-at .ensures in
+    let l : (c .before .before .before .before .before .before .before .before .before .is-slot-at .result && not (c .before .before .before .before .before .before .before .before .goes-on .result)) ≡ (slotAt (getD (a .trace .now) (a .k) 0) (a .state .overdrive) && not (goesOn (a .state .transfer))) =
+    (λ i. (c .before .before .before .before .before .before .before .before .before .is-slot-at .ensures ∙ ap (λ (b : ℕ). slotAt b (a .state .overdrive)) byte) i && not (c .before .before .before .before .before .before .before .before .goes-on .ensures i)) in
+    let v = c .before .before .before .before .before .before .shift-in .ensures ∙ ap (received (a .state .transfer)) (c .before .before .before .before .before .before .before .level-at .ensures) in
+    (λ i. seenSo (a .seen .commands + 1) (a .seen .completed || ((c .before .before .before .before .before .before .before .before .before .is-slot-at .result && not (c .before .before .before .before .before .before .before .before .goes-on .result)) && c .before .is-write-or-copy .ensures i)) (a .seen .careless))
+    ∙ sym (seen-so (a .trace .now) (a .answers .now) (a .image .now) (a .k) (a .i) (a .state) (a .seen) _ _ _ (sym (d .doing-of .ensures) ∙ c .before .before .before .enum-told .given .1) (sym l) (sym v))
 
 returns-3 : tie.Need-returns-3
-unfolding seenWith seenBy
+unfolding seenBy
 returns-3 c =
-    simp (sym (c .before .before .doing-of .ensures) ∙ c .enum-told2 .given .1)
+    let a = c .before .before .before .before .before .before .before .before .before .before .before .before .args in
+    sym (seen-so (a .trace .now) (a .answers .now) (a .image .now) (a .k) (a .i) (a .state) (a .seen) _ _ _ (sym (c .before .before .doing-of .ensures) ∙ c .enum-told2 .given .1) refl refl)
 
 returns-4 : tie.Need-returns-4
-unfolding seenWith seenBy
+unfolding seenBy
 returns-4 c =
-    simp (sym (c .before .before .before .before .before .before .doing-of .ensures) ∙ c .before .before .before .before .at .given .1, sym (c .before .before .before .before .before .before .before .before .before .goes-on .ensures) ∙ not-true _ (not-false _ (c .before .before .if1 .left)), c .before .is-careless .ensures, c .before .before .before .before .before .before .before .shift-in .ensures, c .before .before .before .before .before .before .before .before .level-at .ensures)
+    let a = c .before .before .before .before .before .before .before .before .before .before .before .before .before .before .before .before .args in
+    let d = c .before .before .before .before .before .before in
+    let byte = c .before .before .before .before .before .before .before .before .before .before .before .byte-at .ensures in
+    let l : (c .before .before .before .before .before .before .before .before .before .before .is-slot-at .result && not (c .before .before .before .before .before .before .before .before .before .goes-on .result)) ≡ (slotAt (getD (a .trace .now) (a .k) 0) (a .state .overdrive) && not (goesOn (a .state .transfer))) =
+    (λ i. (c .before .before .before .before .before .before .before .before .before .before .is-slot-at .ensures ∙ ap (λ (b : ℕ). slotAt b (a .state .overdrive)) byte) i && not (c .before .before .before .before .before .before .before .before .before .goes-on .ensures i)) in
+    let v = c .before .before .before .before .before .before .before .shift-in .ensures ∙ ap (received (a .state .transfer)) (c .before .before .before .before .before .before .before .before .level-at .ensures) in
+    (λ i. seenSo (a .seen .commands) (a .seen .completed) (a .seen .careless || c .before .is-careless .ensures i))
+    ∙ sym (seen-so (a .trace .now) (a .answers .now) (a .image .now) (a .k) (a .i) (a .state) (a .seen) _ _ _ (sym (d .doing-of .ensures) ∙ c .before .before .before .before .at .given .1) (sym l ∙ not-false _ (c .before .before .if1 .left)) (sym v))
 
 returns-5 : tie.Need-returns-5
-unfolding seenWith seenBy
+unfolding seenBy
 returns-5 c =
-    simp (sym (c .before .before .doing-of .ensures) ∙ c .enum-told3 .given .1)
+    let a = c .before .before .before .before .before .before .before .before .before .before .before .before .args in
+    sym (seen-so (a .trace .now) (a .answers .now) (a .image .now) (a .k) (a .i) (a .state) (a .seen) _ _ _ (sym (c .before .before .doing-of .ensures) ∙ c .enum-told3 .given .1) refl refl)
 
 pub seen-with-spec : {M : Type 1} → statement M
 seen-with-spec =
     tie.close
     (tie.spec
+    byte-at-requires
+    is-slot-at-requires
     goes-on-requires
     level-at-requires
     shift-in-requires
     doing-of-requires
     enum-told
-    add-t18
+    add-t21
     is-write-or-copy-requires
     enum-told-2
     enum-known-at

@@ -11,9 +11,6 @@ check-requires c κs = search needs
 enum-told : tie.Need-enum-told
 enum-told c = search needs
 
-byte-at-requires : tie.Need-byte-at-requires
-byte-at-requires c κs = search needs
-
 verdict-here-requires : tie.Need-verdict-here-requires
 verdict-here-requires c κs = search needs
 
@@ -28,7 +25,7 @@ enum-known-verdict-2 c = search needs
 
 returns : tie.Need-returns
 unfolding verdictNext agreesAt
-returns c = simp (c .verdict-here .ensures, c .before .byte-at .ensures, sym (c .before .before .before .before .before .check .ensures) ∙ c .before .before .if1 .taken, c .before .before .before .enum-told .given .1)
+returns c = simp (c .verdict-here .ensures, sym (c .before .before .before .before .check .ensures) ∙ c .before .if1 .taken, c .before .before .enum-told .given .1)
 
 returns-2 : tie.Need-returns-2
 unfolding verdictNext agreesAt
@@ -48,7 +45,6 @@ verdict-next-spec =
     (tie.spec
     check-requires
     enum-told
-    byte-at-requires
     verdict-here-requires
     enum-known-verdict
     verdict-kept-requires
