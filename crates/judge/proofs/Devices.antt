@@ -6,17 +6,13 @@ use mathlib.Core.Bool.{Bool, true, false, not, cond, _&&_, _||_, true≢false, o
 use mathlib.Core.List.{List, [], _∷_, _++_, map}
 use native.Mathlib.Omega.{arith}
 use native.Mathlib.Nat.{add-zero}
-use lib.ListN.{length, getD, take, drop, length-map}
-use lib.Seq.{length-take-le, take-suc, getD-at}
+use lib.ListN.{length, getD, take}
+use lib.Seq.{take-suc}
 use lib.Dec.{eqb, ltb}
 use borrow.Author.Tests.{not-false}
-use Rattle.bits.specs.Bit.{levelByte}
 use Rattle.kind.specs.declared.Kind.{Kind}
 use Rattle.kind.specs.declared.Kind.the-variants as kinds
 use Rattle.kind.specs.Kind.{isFlat, isSram, memorySize, bodySize, speedKnown}
-use Rattle.image.specs.Image.{countOf, kindAt}
-use Rattle.image.specs.Refusal.{someBelow}
-use Rattle.image.proofs.Laws.{some-at}
 use Rattle.line.specs.declared.SramStage.{SramStage}
 use Rattle.line.specs.declared.SramStage.the-variants as srams
 use Rattle.line.specs.declared.MemoryStage.the-variants as memories
@@ -24,7 +20,7 @@ use Rattle.line.specs.declared.Stage.{Stage}
 use Rattle.line.specs.declared.Stage.the-variants.{Rom, Memory}
 use Rattle.line.specs.Transfers.{goesOn, received}
 use Rattle.sram.specs.declared.CopyDone.{CopyDone}
-use Rattle.sram.specs.declared.CopyDone.the-variants.{NoCopy, Made}
+use Rattle.sram.specs.declared.CopyDone.the-variants.{NoCopy}
 use Rattle.sram.specs.Sram.{sramCopy, patternCopy, patternSame, copyMade}
 use Rattle.device.specs.declared.LineState.{LineState}
 use Rattle.device.specs.Device.{memoryCopy, stageCopy, copyInSlotAsIs, copyInSlot, memoryRange, stageRange, lineStateInRange}
@@ -38,7 +34,7 @@ use Rattle.bus.proofs.Runs.{run-append, Same, AllSame, none, also, run-same, sa
 use Rattle.judge.specs.declared.Doing.{Doing}
 use Rattle.judge.specs.declared.Doing.the-variants.{Command, Address, Pattern, Other}
 use Rattle.judge.specs.declared.Seen.{Seen}
-use Rattle.judge.specs.Rules.{Moment, isLast, isCommand, isMemoryCommand, atMemoryCommand, completes, isMade, acceptsCopy, wantedBits, shownSinceWrite}
+use Rattle.judge.specs.Rules.{Moment, isLast, isCommand, isMemoryCommand, completes, isMade, acceptsCopy, wantedBits, shownSinceWrite}
 use Rattle.judge.specs.Rules.{deviceAt, devicesAt, momentOf, momentAt, momentsOf}
 use Rattle.judge.specs.Loops.{levelAt, slotAt, sramDoing, memoryDoing, doingOf, patternAccepted, seenSo, seenBy, carefulAt}
 use Rattle.judge.proofs.Moments.{slot-heard, upFrom, up-append, WayTo, careful-is}

@@ -20,7 +20,7 @@ use Rattle.device.specs.declared.LineState.{LineState}
 use Rattle.device.specs.Device.{lineState, resetState, stateAfterSlotAsIs, stageRange}
 use Rattle.bus.specs.declared.Event.{Event}
 use Rattle.bus.specs.declared.Event.the-variants.{Reset}
-use Rattle.bus.specs.Bus.{Device, deviceWith, eventOf, takenState, hears}
+use Rattle.bus.specs.Bus.{deviceWith, eventOf, takenState, hears}
 use Rattle.bus.specs.Loops.{heardStateAsIs, nextStateAsIs}
 use Rattle.judge.specs.declared.Mark.{Mark}
 use Rattle.judge.specs.declared.Mark.the-variants.{Unmarked, Wrote, Reads}

@@ -5,23 +5,22 @@ use mathlib.Core.Path.{_≡_, refl, sym, ap, subst, _∙_}
 use mathlib.Core.Bool.{Bool, true, false, cond, _&&_}
 use mathlib.Core.List.{List, [], _∷_, _++_, map, append-assoc}
 use native.Mathlib.Omega.{arith}
-use lib.ListN.{length, getD, set, take, drop, length-append, length-map, length-drop, take-append-drop, List·getD-append}
+use lib.ListN.{length, getD, set, take, drop, length-append, length-drop, take-append-drop, List·getD-append}
 use lib.Seq.{length-take-le, drop-cons}
 use lib.Dec.{eqb}
 use borrow.Author.Tests.{lt-ltb, le-leb}
 use Rattle.kind.specs.declared.Kind.{Kind}
 use Rattle.kind.specs.Kind.{kindOf, bodySize}
-use Rattle.image.specs.Image.{countOf, editionOf, familyAt, secondAt, offsetAt, flatAt, kindAt}
+use Rattle.image.specs.Image.{countOf, offsetAt, kindAt}
 use Rattle.image.proofs.Accepted.{Known}
 use Rattle.device.specs.declared.LineState.{LineState}
 use Rattle.bus.specs.declared.Place.{Place}
 use Rattle.bus.specs.Bus.{Device, eventOf, nextDevice}
 use Rattle.bus.specs.Run.{tableOfContents, bodiesOf, statesOf}
 use Rattle.bus.specs.Loops.{passedOver, nextStateAsIs, nextBodyAsIs, placeIn, deviceAtPlace, deviceIn, imageWithBody, turnState, turnImage, lineAt, BusState, busState, turnAt, turnsUpTo}
-use Rattle.bus.proofs.Laws.{place-inside}
 use Rattle.bus.proofs.Ranges.{AllIn}
 use Rattle.bus.proofs.Runs.{AllSame, part-same, same-length}
-use Rattle.bus.proofs.Shown.{Stand, stand-same, nobody, imageOf, contents-length, kind-kept, offset-kept, count-kept, entered, image-split, start-is, place-is, turns-are}
+use Rattle.bus.proofs.Shown.{Stand, stand-same, nobody, imageOf, contents-length, kind-kept, count-kept, entered, image-split, start-is, place-is, turns-are}
 
 drop-front : (s : ℕ) (xs ys : List ℕ) → s ≤ length xs → drop s (xs ++ ys) ≡ drop s xs ++ ys
 drop-front zero xs ys h = refl

@@ -3,7 +3,7 @@
 --     work-as-run      the work space takes the image that a run of the trace leaves, and the line states are the run's
 use Prim.Native.Nat.{ℕ, zero, suc}
 use mathlib.Core.Path.{_≡_, refl, sym, ap, _∙_}
-use mathlib.Core.Bool.{Bool, true, false, not, cond, _||_, true≢false}
+use mathlib.Core.Bool.{not, _||_}
 use mathlib.Core.List.{List, _++_}
 use lib.ListN.{length, getD, drop}
 use borrow.Author.Tests.{eq-eqb}
@@ -12,11 +12,9 @@ use Rattle.bus.specs.Bus.{Device, runTrace}
 use Rattle.bus.specs.Run.{leftByRun, runAt, runOf}
 use Rattle.bus.specs.Refusal.{runRefusal}
 use Rattle.judge.specs.declared.Rule.the-variants as rules
-use Rattle.judge.specs.declared.Verdict.{Verdict}
-use Rattle.judge.specs.declared.Verdict.the-variants.{Accepted, Broken, Refused}
 use Rattle.judge.specs.Rules.{breaksA, breaksB, breaksC}
 use Rattle.judge.specs.Refusal.{judgeRefusal}
-use Rattle.judge.specs.Judge.{First, none, at, orHere, firstBelow, verdictBy, verdictOf, ruleNumber, ruleOf, leftByJudge, judgeAt, judgeOf}
+use Rattle.judge.specs.Judge.{First, none, orHere, firstBelow, verdictBy, verdictOf, leftByJudge, judgeAt, judgeOf}
 
 none-differs : (trace : List ℕ) (ds : List Device) (n : ℕ) → firstBelow n (breaksA trace (runTrace trace ds .answers) ds) ≡ none
 unfolding firstBelow breaksA orHere

@@ -2,36 +2,33 @@
 use Prim.Native.Nat.{ℕ, zero, suc, _+_, _-_, _*_, _<_, _≤_}
 use mathlib.Core.Path.{_≡_, refl, sym, ap, subst, _∙_}
 use mathlib.Core.Bool.{Bool, true, false, not, cond, _&&_, _||_, true≢false}
-use mathlib.Core.List.{List, [], _∷_, _++_, map}
+use mathlib.Core.List.{List, [], _∷_, _++_}
 use mathlib.Core.Logic.{⊎-elim}
 use native.Mathlib.Omega.{arith}
 use native.Mathlib.Nat.{eq-or-lt-of-le}
-use lib.ListN.{length, getD, set, take, drop, length-map, replicate, take-append-drop}
+use lib.ListN.{length, getD, set, take, drop, replicate, take-append-drop}
 use lib.Seq.{length-take-le, take-suc, drop-cons, getD-at, set-at, append-snoc, take-length}
 use lib.Dec.{T, eqb, ltb}
 use borrow.Author.Tests.{eqb-true, ltb-false, lt-ltb, not-false}
 use Rattle.bits.specs.Bit.{levelByte}
 use Rattle.kind.specs.declared.Kind.{Kind}
 use Rattle.kind.specs.declared.Kind.the-variants as kinds
-use Rattle.kind.specs.Kind.{isSram, isEprom}
-use Rattle.image.specs.Image.{countOf, kindAt}
-use Rattle.image.specs.Refusal.{someBelow, imageRefusal}
+use Rattle.kind.specs.Kind.{isSram}
+use Rattle.image.specs.Image.{countOf}
+use Rattle.image.specs.Refusal.{someBelow}
 use Rattle.image.proofs.Accepted.{Known, accepted-known}
-use Rattle.image.proofs.Laws.{some-at}
 use Rattle.line.specs.Transfers.{goesOn, received}
 use Rattle.device.specs.declared.LineState.{LineState}
 use Rattle.device.specs.Device.{waitingState, stageCopy}
 use Rattle.recording.specs.Recorded.{agreesAt}
-use Rattle.bus.specs.declared.Place.{Place}
-use Rattle.bus.specs.Bus.{Device, eventOf, levelOf, nextDevice, busStepAt, busStep, Run, withAnswer, runTrace}
-use Rattle.bus.specs.Run.{waitingDevices, tableOfContents, bodiesOf, statesOf}
-use Rattle.bus.specs.Refusal.{someByte, badTrace, noFirstReset, badPulse, runRefusal}
-use Rattle.bus.specs.Loops.{placeIn, deviceAtPlace, deviceIn, lineAt, levelOn, BusState, busState, turnsUpTo, filledUpTo, fewerOf}
+use Rattle.bus.specs.Bus.{Device, eventOf, levelOf, busStepAt, busStep, Run, withAnswer, runTrace}
+use Rattle.bus.specs.Run.{waitingDevices, statesOf}
+use Rattle.bus.specs.Refusal.{noFirstReset, runRefusal}
+use Rattle.bus.specs.Loops.{placeIn, deviceAtPlace, deviceIn, lineAt, BusState, busState, turnsUpTo, filledUpTo, fewerOf}
 use Rattle.bus.proofs.Laws.{admitted, Admitted, fewer-first}
 use Rattle.bus.proofs.Ranges.{AllIn, run-in}
-use Rattle.bus.proofs.Runs.{runAfter, run-append, run-length, run-same, same-length}
-use Rattle.bus.proofs.Shown.{Entered, Stand, stand-same, nobody, imageOf, entered, device-is, level-is, turned-is, waiting-all, waiting-stands, waiting-in, waiting-image, waiting-states, filled-is}
-use Rattle.judge.specs.declared.Rule.{Rule}
+use Rattle.bus.proofs.Runs.{run-append, run-length, run-same, same-length}
+use Rattle.bus.proofs.Shown.{Stand, stand-same, imageOf, device-is, level-is, turned-is, waiting-all, waiting-stands, waiting-in, waiting-image, waiting-states, filled-is}
 use Rattle.judge.specs.declared.Rule.the-variants as rules
 use Rattle.judge.specs.declared.Verdict.{Verdict}
 use Rattle.judge.specs.declared.Verdict.the-variants.{Accepted, Broken, Refused}
@@ -39,10 +36,10 @@ use Rattle.judge.specs.declared.Seen.{Seen}
 use Rattle.judge.specs.Rules.{Moment, atMemoryCommand, isMemoryCommand, completes, isMade, acceptsCopy, wantedBits, shownSinceWrite, deviceAt, devicesAt, momentAt, momentsOf, breaksA, countBelow, breaksB, breaksC}
 use Rattle.judge.specs.Refusal.{judgeRefusal}
 use Rattle.judge.specs.Judge.{First, none, at, orHere, firstBelow, verdictBy, verdictOf, JudgeOutcome, judgeOutcome, JudgeLeaves, leftByJudge, judgeAt, judgeOf}
-use Rattle.judge.specs.Loops.{levelAt, slotAt, bodyIn, carelessAt, patternAccepted, carefulAt, doingOf, seenSo, seenBy, seenWith, seenUpTo, nothingSeen, verdictHere, verdictKept, verdictNext, laidUpTo, JudgeState, judgeState, judgeEventAt, judgeEventsUpTo}
+use Rattle.judge.specs.Loops.{levelAt, slotAt, bodyIn, carelessAt, patternAccepted, carefulAt, doingOf, seenSo, seenBy, seenWith, seenUpTo, verdictHere, verdictKept, verdictNext, laidUpTo, JudgeState, judgeState, judgeEventAt, judgeEventsUpTo}
 use Rattle.judge.proofs.Laws.{judged-room, refused-as-run}
 use Rattle.judge.proofs.Rest.{take-drop, device-q, turns-q}
-use Rattle.judge.proofs.Devices.{carelessBy, plus, seen-stage, careless-stage, lastIn, accepts-is, completes-is, devices-next, still-there, range-at, range-stage, careful-at}
+use Rattle.judge.proofs.Devices.{carelessBy, plus, seen-stage, careless-stage, lastIn, accepts-is, completes-is, devices-next, range-at, range-stage, careful-at}
 
 -- ---- the verdict of one more event
 
@@ -130,8 +127,8 @@ line-at [] tail i h = absurd (omega arith)
 line-at (e ∷ es) tail zero h = refl
 line-at (e ∷ es) tail (suc i) h = line-at es tail i (omega arith)
 
-module _ (image trace answers rest : List ℕ) (tail : List LineState) (known : Known image) (good : badTrace trace ≡ false) (first : noFirstReset trace ≡ false)
-    (pulse : badPulse image trace ≡ false) (len : length answers ≡ length trace) where
+module _ (image trace answers rest : List ℕ) (tail : List LineState) (known : Known image) (first : noFirstReset trace ≡ false)
+    (len : length answers ≡ length trace) where
   abbrev n : ℕ
   n = countOf image
 
@@ -370,19 +367,17 @@ judge-shown image trace answers work lines e =
     let n = countOf image in
     let tail = drop n lines in
     let rest = drop (length image) work in
-    let good = has .run .trace-good in
     let first = has .run .reset-first in
-    let pulse = has .run .pulses-good in
     let len = has .as-many in
-    let began : laidUpTo (length image) image work ≡ Q image trace answers rest tail known good first pulse len 0 =
+    let began : laidUpTo (length image) image work ≡ Q image trace answers rest tail known first len 0 =
     laid-is (length image) image work (omega arith) (has .work-room) ∙ ap (λ (l : List ℕ). l ++ rest) (take-length image)
-    ∙ sym (start-work image trace answers rest tail known good first pulse len) in
-    let stood : filledUpTo (fewerOf n (length lines)) waitingState lines ≡ Ls image trace answers rest tail known good first pulse len 0 =
+    ∙ sym (start-work image trace answers rest tail known first len) in
+    let stood : filledUpTo (fewerOf n (length lines)) waitingState lines ≡ Ls image trace answers rest tail known first len 0 =
     ap (λ (m : ℕ). filledUpTo m waitingState lines) (fewer-first n (length lines) (has .run .lines-room))
     ∙ filled-is n waitingState lines (has .run .lines-room)
-    ∙ sym (start-lines image trace answers rest tail known good first pulse len) in
+    ∙ sym (start-lines image trace answers rest tail known first len) in
     let done = (λ i. judgeEventsUpTo trace answers n (length trace) (judgeState Accepted (began i) (stood i)))
-    ∙ all-judged image trace answers rest tail known good first pulse len in
+    ∙ all-judged image trace answers rest tail known first len in
     (λ i. judgeOutcome (done i .verdict) (done i .work) (done i .lines))
     ∙ ap (λ (m : ℕ). judgeAt m image trace answers work lines) (sym e)
 

@@ -4,7 +4,7 @@
 --     Alike            two line states that are equal, or both off and at the same speed
 --     event-alike      an event leaves them alike
 --     alike-wrote, -reads    both have the same mark
-use Prim.Native.Nat.{ℕ, zero, suc, _+_, _<_, _≤_, _%_}
+use Prim.Native.Nat.{ℕ, _+_, _<_, _≤_, _%_}
 use mathlib.Core.Path.{_≡_, refl, sym, ap, subst, _∙_}
 use mathlib.Core.Bool.{Bool, true, false, not, cond, _&&_, _||_, true≢false, Bool·beq}
 use mathlib.Core.List.{List}
@@ -16,7 +16,7 @@ use borrow.Author.Tests.{ltb-true, eqb-true}
 use Rattle.bits.specs.Bit.{bitAt}
 use Rattle.kind.specs.declared.Kind.{Kind}
 use Rattle.kind.specs.declared.Kind.the-variants as kinds
-use Rattle.kind.specs.Kind.{isFlat, isSram, isEprom, memorySize}
+use Rattle.kind.specs.Kind.{isFlat, isEprom, memorySize}
 use Rattle.line.specs.declared.RomStage.{RomStage}
 use Rattle.line.specs.declared.RomStage.the-variants as roms
 use Rattle.line.specs.declared.SramStage.{SramStage}
@@ -30,7 +30,7 @@ use Rattle.line.specs.Transfers.{waiting, sending, listening, goesOn, received,
 use Rattle.rom.specs.Rom.{matchBit, searchBit, addressed, overdriveCommand, romCommand, afterRead, afterMatch, afterSearch, afterOverdriveMatch, romNext, romSpeed, romRange}
 use Rattle.rom.proofs.Laws.{code-bit}
 use Rattle.sram.specs.Sram.{sramCommand, sramNext, afterDataBit, afterRegister, afterScratchpad, afterPattern, patternSame, readMemory, addressOf, targetOffset}
-use Rattle.sram.specs.Sram.{writeDataBit, readRegister, readScratchpad, copyPattern, copyAccepted, memoryAt}
+use Rattle.sram.specs.Sram.{writeDataBit, readRegister, readScratchpad, copyPattern, copyAccepted}
 use Rattle.device.specs.declared.LineState.{LineState}
 use Rattle.device.specs.Device.{lineState, waitingState, resetAt, memoryCommand, memoryNext, stageNext, stageSpeed, transferAfterSlot, speedAfterSlot, stateAfterSlotAsIs, memoryPulse, stagePulse, stateAfterPulseAsIs, memoryRange, stageRange}
 use Rattle.bus.specs.declared.Event.{Event}

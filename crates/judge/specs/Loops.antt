@@ -4,7 +4,7 @@
 use Prim.Native.Nat.{ℕ, zero, suc, _+_, _-_, _*_}
 use mathlib.Core.Bool.{Bool, true, false, not, cond, _&&_, _||_, Bool·beq}
 use mathlib.Core.List.{List, [], _∷_, _++_}
-use lib.ListN.{length, getD, set, take, drop}
+use lib.ListN.{getD, set, take, drop}
 use lib.Dec.{eqb, ltb}
 use Rattle.bits.specs.Bit.{bitAt}
 use Rattle.kind.specs.declared.Kind.{Kind}
@@ -22,7 +22,7 @@ use Rattle.device.specs.Device.{lineState, waitingState, resetState, stateAfter
 use Rattle.recording.specs.Recorded.{agreesAt}
 use Rattle.bus.specs.declared.Place.{Place}
 use Rattle.bus.specs.Bus.{deviceWith, eventOf, hears}
-use Rattle.bus.specs.Loops.{placeIn, nextStateAsIs, lineAt, levelOn, BusState, busState, turnsUpTo}
+use Rattle.bus.specs.Loops.{placeIn, nextStateAsIs, lineAt, levelOn, busState, turnsUpTo}
 use Rattle.judge.specs.Rules.{isSlot, isOverdrive}
 use Rattle.judge.specs.declared.Rule.{Rule}
 use Rattle.judge.specs.declared.Rule.the-variants as rules

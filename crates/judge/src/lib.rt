@@ -226,7 +226,13 @@ fn line_next(
 ) -> LineState
     ensures { λ r. ⌜ r ≡ lineNext (now (trace .entry)) (now (answers .entry)) kind (now (body .entry)) k state ⌝ }
 {
-    after_event(state, kind, body, bits::byte_at(trace, k), level_at(answers, k))
+    after_event(
+        state,
+        kind,
+        body,
+        bits::byte_at(trace, k),
+        level_at(answers, k),
+    )
 }
 
 // The event is marked if it is the last slot of a read's command or of a write's address; `value` is the byte that was
@@ -351,7 +357,14 @@ fn bits_shown(
 }
 
 // A read whose command completed in the event before k showed all that is to be copied.
-fn read_shown(trace: &[u8], answers: &[u8], body: &[u8], overdrive: bool, end: usize, k: usize) -> bool
+fn read_shown(
+    trace: &[u8],
+    answers: &[u8],
+    body: &[u8],
+    overdrive: bool,
+    end: usize,
+    k: usize,
+) -> bool
     ensures { λ r. ⌜ r
         ≡ readShown (now (trace .entry)) (now (answers .entry)) (now (body .entry)) overdrive end k ⌝ }
 {

@@ -5,7 +5,6 @@ use borrow.Author.Needs.{needs}
 use mathlib.Core.Bool.{false}
 use Rattle.judge.proofs.Laws.{back-step, back-end, looks-positive}
 use Rattle.judge.specs.Loops.{backTo, backFrom, carefulBy, carefulAt}
-use Rattle.judge.specs.declared.Back.{Back}
 use mathlib.Core.Path.{_≡_, sym, ap, _∙_}
 use Rattle.judge.proofs.is_careful.Statement.{statement}
 use Rattle.judge.proofs.is_careful.Tie as tie

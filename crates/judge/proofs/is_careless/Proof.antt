@@ -1,4 +1,4 @@
-use mathlib.Core.Path.{sym, ap, _∙_}
+use mathlib.Core.Path.{sym, _∙_}
 use Rattle.judge.specs.Loops.{carelessAt}
 use native.Mathlib.Omega.{arith}
 use Rattle.bus.proofs.Laws.{inside-of}

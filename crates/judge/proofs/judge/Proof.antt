@@ -7,10 +7,10 @@
 -- callees leave is what the contract says is `Shown.antt`'s `judge-shown`.
 -- All that it knows of its callees is that each meets its contract.
 -- Assumes nothing. `Walk.antt` of `walks` says how a walk is written.
-use Rattle.walks.proofs.Walk.{_≡_, refl, sym, ap, subst, _∙_, ℕ, _≤_, arith, [], _∷_, List, length, lit<, URA, fullShare}
+use Rattle.walks.proofs.Walk.{_≡_, refl, sym, ap, subst, _∙_, ℕ, _≤_, arith, [], _∷_, List, length, URA, fullShare}
 use Rattle.walks.proofs.Walk.{named, w32, w64, vunit, vint, vbool, SProp, emp, id⊢, flft, Fun, factI, Lfts, Shares}
 use Rattle.walks.proofs.Walk.{givenOf, tables, tablesOf, Memory, Routine, Heap, Tables, Atoms, Given, Item, ‵, _$_, Sq}
-use Rattle.walks.proofs.Walk.{runs, atRet, !, move, skips, look, lit, of-opd, no-more, bin, returns, Is, u8, u32, u64}
+use Rattle.walks.proofs.Walk.{runs, atRet, !, move, skips, look, lit, of-opd, no-more, bin, returns, Is, u8, u64}
 use Rattle.walks.proofs.Walk.{RefT, ShrSlice, MutSlice, Room, cited, Cell, void, has, Blocks, env, stand, quits, lowers}
 use Rattle.walks.proofs.Walk.{Walk, End, Met, enters, asks, asks-last, finishes, proved, var, count, new, to, under, ptr}
 use Rattle.walks.proofs.Walk.{val, again, ifs, lands-new, lands-renew, ends-renew, also, lends, backs}

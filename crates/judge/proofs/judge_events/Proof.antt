@@ -11,14 +11,13 @@ use Rattle.walks.proofs.Walk.{flft, Fun, factI, Lfts, Shares, givenOf, tables, 
 use Rattle.walks.proofs.Walk.{Atoms, Given, Item, ‵, _$_, !, move, drop, look, forget, stop, from, lit, of-opd, and-then}
 use Rattle.walks.proofs.Walk.{no-more, returns, Is, u8, u64, RefT, ShrSlice, MutSlice, Room, cited, Cell, void, has}
 use Rattle.walks.proofs.Walk.{Blocks, env, stand, quits, lowers, Walk, Met, enters, asks, finishes, proved, var, count}
-use Rattle.walks.proofs.Walk.{new, bump, counted-where, to, under, ptr, val, again, lands-new, lands-renew, also, lends}
+use Rattle.walks.proofs.Walk.{new, bump, counted-where, to, under, val, again, lands-new, lands-renew, also, lends}
 use Rattle.walks.proofs.Walk.{backs, goes-in, goes-out, shares-on, shares-back}
 use types.Run.{fld, load}
 use types.Part.{whole, sub, look-in}
-use mathlib.Core.Bool.{Bool}
 use Rattle.device.specs.declared.LineState.{LineState}
 use Rattle.bus.specs.declared.EventResult.{EventResult}
-use Rattle.bus.specs.Loops.{levelOn, scanOn, BusState, busState, stepOn, copiedOn, eventResult}
+use Rattle.bus.specs.Loops.{scanOn, BusState, busState, stepOn, copiedOn, eventResult}
 use Rattle.bus.proofs.Laws.{step-on}
 use Rattle.bus.proofs.Lines.{fits-next, R, result}
 use Rattle.bus.proofs.Shapes.{step-shape}

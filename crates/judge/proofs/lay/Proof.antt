@@ -6,11 +6,11 @@ use mathlib.Core.Path.{ap}
 use borrow.Author.Needs.{needs}
 use mathlib.Core.Path.{refl}
 use native.Mathlib.Omega.{arith}
-use Rattle.judge.proofs.Laws.{laid-length, laid-step}
+use Rattle.judge.proofs.Laws.{laid-step}
 use Rattle.judge.specs.Loops.{laidUpTo}
 use lib.ListN.{length}
 use Prim.Native.Nat.{_≤_, _-_}
-use mathlib.Core.Path.{_≡_, sym, _∙_}
+use mathlib.Core.Path.{_≡_, _∙_}
 use Rattle.judge.proofs.lay.Statement.{statement}
 use Rattle.judge.proofs.lay.Tie as tie
 

@@ -1,6 +1,5 @@
 use borrow.Author.Tests.{eq-eqb, ne-eqb, lt-ltb, le-ltb}
-use mathlib.Core.Bool.{Bool, not, cond}
-use mathlib.Core.Path.{sym, ap, _∙_}
+use mathlib.Core.Path.{sym, _∙_}
 use Rattle.judge.proofs.Laws.{refused-as-run, judged-room}
 use borrow.Author.Needs.{needs}
 use Rattle.judge.proofs.refusal.Statement.{statement}

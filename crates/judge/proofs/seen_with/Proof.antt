@@ -4,7 +4,7 @@ use Rattle.line.specs.Transfers.{goesOn, received}
 use borrow.Author.Tests.{not-true, not-false}
 use lib.ListN.{getD}
 use Prim.Native.Nat.{ℕ, _+_}
-use mathlib.Core.Bool.{Bool, not, _&&_, _||_, or-false}
+use mathlib.Core.Bool.{not, _&&_, _||_, or-false}
 use mathlib.Core.Path.{_≡_, refl, sym, ap, _∙_}
 use borrow.Author.Needs.{needs}
 use Rattle.judge.proofs.seen_with.Statement.{statement}
