@@ -1,6 +1,6 @@
--- Document 02, item 5, is stated here, with item 9: the rules A, B and C, each at an event of a trace on the devices of a
--- bench, in the words of the run (`Bus.antt` of the crate `bus`). Events are counted from 0. A device takes part in an
--- event only where it hears it.
+-- Document 02, item 5, is stated here, with item 9: the rules A, B and C, each at an event of a trace on the devices of
+-- a bench, in the words of the run (`Bus.antt` of the crate `bus`). Events are counted from 0. A device takes part in
+-- an event only where it hears it.
 use Prim.Native.Nat.{ℕ, zero, suc, _+_, _-_, _*_}
 use mathlib.Core.Bool.{Bool, true, false, not, cond, _&&_, _||_, Bool·beq}
 use mathlib.Core.List.{List, [], _∷_, _++_}

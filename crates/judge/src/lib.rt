@@ -3,8 +3,8 @@
 //
 // One pass over the trace runs the bench in a lent work space and looks at every device in every event. Only where a
 // device accepts a copy are the events before it looked at again, back to that device's last write. One device's way
-// over the line depends on its code and on the levels alone, so that it is followed by value from a regular reset, which
-// leaves every device at regular speed, with the recorded answers as levels, and no second image is needed.
+// over the line depends on its code and on the levels alone, so that it is followed by value from a regular reset on,
+// which leaves every device at regular speed, with the recorded answers as levels; no second image is needed.
 use device::LineState;
 use image::ACCEPTED;
 use kind::Kind;
@@ -282,8 +282,8 @@ fn wanted_bytes(body: &[u8]) -> u8
     if last < first { 0 } else { last + 1 - first }
 }
 
-// A read is to show the registers, then the bytes from T4:T0 through the ending offset. This is bit `at` of them, by its
-// value in the body as it is at the copy.
+// A read is to show the registers, then the bytes from T4:T0 through the ending offset. This is bit `at` of them, by
+// its value in the body as it is at the copy.
 fn wanted_bit(body: &[u8], at: usize) -> bool
     requires { ⌜ at < 1024 ⌝ }
     ensures { λ r. ⌜ r ≡ wantedBit (now (body .entry)) at ⌝ }
@@ -433,8 +433,8 @@ fn empty_part() -> Part
 }
 
 // These are the writes and reads of a device from event `from`, the first after a regular reset, up to event `end`. The
-// device is followed by the recorded answers; its body may be that of a later time, as nothing that is marked depends on
-// more than the code.
+// device is followed by the recorded answers; its body may be that of a later time, as nothing that is marked depends
+// on more than the code.
 fn part_in(trace: &[u8], answers: &[u8], kind: Kind, body: &[u8], from: usize, end: usize) -> Part
     ensures { λ r. ⌜ r ≡ partOver (now (trace .entry)) (now (answers .entry)) kind (now (body .entry)) end resetState
         (partSo false false) from (end - from) ⌝ }
@@ -464,8 +464,8 @@ fn back_by(j: usize, back: Back, part: Part) -> Back
     }
 }
 
-// The walk back looks at event j. Only a regular reset begins a part, as it leaves every device as every other does; one
-// at overdrive does so only for a device that hears it.
+// The walk back looks at event j. Only a regular reset begins a part: all devices hear it, and it leaves them at regular
+// speed, whatever came before.
 fn back_at(trace: &[u8], answers: &[u8], kind: Kind, body: &[u8], j: usize, back: Back) -> Back
     requires { ⌜ j < 18446744073709551615 ⌝ }
     ensures { λ r. ⌜ r ≡ backAt (now (trace .entry)) (now (answers .entry)) kind (now (body .entry)) j back ⌝ }
