@@ -164,6 +164,9 @@ uint32_t troughiron_search(const uint8_t *image, size_t image_length,
  *          least one read scratchpad of that device showed on the line TA1, TA2, E/S and all bytes from T4:T0 through
  *          the ending offset, with the values that they have just before the copy is accepted; where no bytes lie
  *          between, the registers suffice
+ * A device takes part only in the slots that it hears: a command, an address, a pattern and a read count at the
+ * device's own speed. In a read a device at regular speed passes over events 4, 5 and 6, and a regular slot ends the
+ * read of a device at overdrive. Rule B counts the devices at the memory command at either speed.
  *
  * Returns 0 where the session is judged. Then
  *   - *rule is 0 if all three rules are kept, else the number of the rule that is broken, and *event the event that
