@@ -63,7 +63,7 @@ verdict-step none (at j) false bc isB seen k here = kept-so (isB j) j k
 verdict-step none none true bc isB seen k here = refl
 verdict-step none none false bc isB seen k here = here refl refl
 
-here-cases : (isB : ℕ → Bool) (k : ℕ) (b c : Bool) → isB k ≡ b
+pub here-cases : (isB : ℕ → Bool) (k : ℕ) (b c : Bool) → isB k ≡ b
     → cond b (Broken rules.Command k) (cond c (Broken rules.Copy k) Accepted) ≡ verdictBy none (cond (b || c) (at k) none) isB
 unfolding verdictBy
 here-cases isB k true c e = sym (ap (λ (x : Bool). Broken (cond x rules.Command rules.Copy) k) e)
@@ -110,7 +110,7 @@ once-answer : (byte : ℕ) (t : List ℕ) (es : List Device) → runTrace (byte 
 unfolding runTrace withAnswer busStep busStepAt
 once-answer byte t es = refl
 
-answer-at : (trace : List ℕ) (ds : List Device) (k : ℕ) → k < length trace
+pub answer-at : (trace : List ℕ) (ds : List Device) (k : ℕ) → k < length trace
     → getD (runTrace trace ds .answers) k 0 ≡ levelByte (levelOf (eventOf (getD trace k 0)) (devicesAt trace ds k))
 answer-at trace ds k h =
     let t = take k trace in
