@@ -9,8 +9,8 @@ use Rattle.judge.specs.declared.Rule.the-variants.{Answers, Command, Copy}
 use Rattle.judge.specs.declared.Verdict.{Verdict}
 use Rattle.judge.specs.declared.Verdict.the-variants.{Accepted, Broken}
 use Rattle.judge.specs.Judge.{verdictOf}
-use Rattle.example_laws.specs.Session.{SessionStep, reset, write, read, skip, select, eventsOfSteps, levelsOfSteps}
-use Rattle.example_laws.specs.Session.{overdriveReset, unheardReset, overdriveWrite, overdriveRead}
+use Rattle.example_laws.specs.Session.{SessionStep, reset, write, read, skip, select, eventsOfSteps}
+use Rattle.example_laws.specs.Session.{levelsOfSteps, overdriveReset, unheardReset, overdriveWrite}
 use Rattle.example_laws.specs.Images.{ds1992Code, secondCode, zeros, sramBody, blankDs1992, blankDs1996}
 use Rattle.example_laws.specs.Images.{twoDs1992, twoBytes}
 use Rattle.example_laws.specs.Overdrive.{overdriveSkip, overdriveReadBack}
