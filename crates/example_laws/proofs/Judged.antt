@@ -28,7 +28,7 @@ use Rattle.bus.specs.Bus.{takenState, hears, answersLow, masterHigh, heardState
 use Rattle.judge.specs.declared.Verdict.the-variants.{Accepted}
 use Rattle.judge.specs.Judge.{none as nowhere, orHere}
 use Rattle.judge.proofs.OnePass.{passFrom, one-pass}
-use Rattle.example_laws.specs.Judged.{Recording, Right, Every, none, _and_, acceptedRows, answersRows, commandRows, copyRows, table, overdriveRow}
+use Rattle.example_laws.specs.Judged.{Recording, Right, Every, none, _and_, acceptedRows, answersRows, commandRows, copyRows, table, overdriveRow, Judged}
 
 -- one pass gives the verdict
 abbrev Passed : Recording → Type 0
@@ -134,9 +134,9 @@ unfolding bitOf bitAt atLevel withBit putBit shiftIn crcBit crcBits crcByte crcF
     shownSinceWrite momentsOf countBelow orHere
 overdrive = refl
 
-pub judged : Every table
-judged =
+rows : Every table
+rows =
     both _ _ (both _ _ (both _ _ (every acceptedRows accepted) (every answersRows answers)) (every commandRows commands)) (every copyRows copies)
 
-pub judged-at-overdrive : Right overdriveRow
-judged-at-overdrive = right overdriveRow overdrive
+pub judged : Judged
+judged = record { rows = rows; at-overdrive = right overdriveRow overdrive }

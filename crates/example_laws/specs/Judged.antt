@@ -142,3 +142,8 @@ overdriveRow =
     ∷ overdriveWrite (0xCC ∷ 0x55 ∷ 0x26 ∷ 0x00 ∷ 0x07 ∷ [])
     ∷ [])
     Accepted
+
+-- Every recording has its verdict.
+pub record Judged : Type 0 where
+  pub rows : Every table
+  pub at-overdrive : Right overdriveRow

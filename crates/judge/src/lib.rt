@@ -464,8 +464,8 @@ fn back_by(j: usize, back: Back, part: Part) -> Back
     }
 }
 
-// The walk back looks at event j. Only a regular reset begins a part: all devices hear it, and it leaves them at regular
-// speed, whatever came before.
+// The walk back looks at event j. Only a regular reset begins a part: all devices hear it, and it leaves them at
+// regular speed, whatever came before.
 fn back_at(trace: &[u8], answers: &[u8], kind: Kind, body: &[u8], j: usize, back: Back) -> Back
     requires { ⌜ j < 18446744073709551615 ⌝ }
     ensures { λ r. ⌜ r ≡ backAt (now (trace .entry)) (now (answers .entry)) kind (now (body .entry)) j back ⌝ }
