@@ -7,7 +7,7 @@ _troughiron_options() {
         edit) echo --output --force ;;
         run) echo --output --trace --answers --write-trace --vcd --html --json --bits --quiet --room --force ;;
         test) echo --junit --json --force ;;
-        judge) echo --answers --trace ;;
+        judge) echo --answers --trace --json ;;
         search) echo --json --answers --write-trace --vcd --force ;;
         serve) echo --adapter --link --output --record --log --script --quiet --force ;;
     esac

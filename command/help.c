@@ -127,9 +127,9 @@ static const char test_help[] =
     "  -f, --force      replace FILE where it is such a file of this command\n";
 
 static const char judge_help[] =
-    "usage: troughiron judge [--answers FILE] IMAGE SESSION\n"
-    "       troughiron judge [--answers FILE] SESSION\n"
-    "       troughiron judge [--answers FILE] IMAGE --trace FILE\n"
+    "usage: troughiron judge [OPTION...] IMAGE SESSION\n"
+    "       troughiron judge [OPTION...] SESSION\n"
+    "       troughiron judge [OPTION...] IMAGE --trace FILE\n"
     "\n"
     "Accepts a session if all of this holds, and else says which rule is broken, at which event, counted from 0,\n"
     "and line, by which device, and what was missing:\n"
@@ -142,7 +142,8 @@ static const char judge_help[] =
     "Ends with 0 for a session that is accepted and with 4 for another.\n"
     "\n"
     "  --answers FILE   the answers that were recorded, a byte for each event; else those of the bench\n"
-    "  --trace FILE     take raw events, a byte each, in place of a session\n";
+    "  --trace FILE     take raw events, a byte each, in place of a session\n"
+    "  --json           print the verdict for programs\n";
 
 static const char search_help[] =
     "usage: troughiron search [OPTION...] IMAGE\n"

@@ -4,6 +4,7 @@
 #include "copies.h"
 #include "explain.h"
 #include "inputs.h"
+#include "json_reports.h"
 #include "outputs.h"
 #include "report.h"
 #include "status.h"
@@ -17,6 +18,8 @@ struct judge {
     struct session session;
     struct bytes levels, recorded, work;
     struct judged judged;
+    bool json;
+    struct json report; /* for programs */
 };
 
 static int take_words(struct judge *j, const struct words *words, const char *trace)
@@ -75,30 +78,55 @@ static int judge_events(struct judge *j)
     return refusal ? judge_refused(j, refusal) : DONE;
 }
 
-static void report_accepted(const struct judge *j)
+/* For a reader or, with --json, for programs. */
+static void report_accepted(struct judge *j)
 {
     struct copies copies = copies_of(&j->session.image, &j->session.events, j->levels.data);
 
-    printf("%s: accepted: ", j->session.name);
-    report_number(stdout, j->session.events.length, "event", "events");
-    fputs(", ", stdout);
-    report_number(stdout, copies.count, "copy", "copies");
-    fputc('\n', stdout);
+    if (j->json) {
+        json_null(&j->report, "rule");
+        json_number(&j->report, "copies", copies.count);
+    } else {
+        printf("%s: accepted: ", j->session.name);
+        report_number(stdout, j->session.events.length, "event", "events");
+        fputs(", ", stdout);
+        report_number(stdout, copies.count, "copy", "copies");
+        fputc('\n', stdout);
+    }
     copies_free(&copies);
+}
+
+static void report_broken(struct judge *j)
+{
+    const struct findings findings = findings_of(&j->judged);
+
+    if (j->json)
+        json_judged(&j->report, &j->judged, &findings);
+    else
+        explain(stdout, &j->judged, &findings);
 }
 
 static int report(struct judge *j)
 {
+    const bool accepted = j->judged.rule == ACCEPTED;
+
     j->judged.session = &j->session;
     j->judged.recorded = j->recorded.data;
     j->judged.levels = j->levels.data;
-    if (j->judged.rule == ACCEPTED)
+    if (j->json) {
+        json_start(&j->report, "judge");
+        json_text(&j->report, "session", j->session.name);
+        json_number(&j->report, "events", j->session.events.length);
+        json_truth(&j->report, "accepted", accepted);
+    }
+    if (accepted)
         report_accepted(j);
     else
-        explain(stdout, &j->judged);
-    if (report_flush(stdout) != DONE)
-        return BAD;
-    return j->judged.rule == ACCEPTED ? DONE : NOT_ACCEPTED;
+        report_broken(j);
+
+    const int status = j->json ? json_end(&j->report, stdout) : report_flush(stdout);
+
+    return status != DONE || accepted ? status : NOT_ACCEPTED;
 }
 
 int judge_command(struct words *words)
@@ -108,6 +136,7 @@ int judge_command(struct words *words)
     const struct option options[] = {
         { "--trace", &trace, NULL },
         { "--answers", &j.answers, NULL },
+        { "--json", NULL, &j.json },
     };
     int status = options_take(words, options, sizeof options / sizeof *options);
 
