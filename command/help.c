@@ -137,7 +137,7 @@ static const char judge_help[] =
     "  B  No memory command 0F or 55 is complete while more than one device is there to take it.\n"
     "  C  Each accepted copy comes after a write scratchpad to that device in this session; and between the 16th\n"
     "     address bit of its last one and the copy, a read scratchpad of it showed on the line TA1, TA2, E/S and\n"
-    "     all bytes that are copied, as they are when they are copied.\n"
+    "     all bytes from T4:T0 through the ending offset, as they stand just before the copy.\n"
     "A is looked for first, over the whole session, then the first of B and C. What a session expects is no matter.\n"
     "Ends with 0 for a session that is accepted and with 4 for another.\n"
     "\n"
