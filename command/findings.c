@@ -1,6 +1,5 @@
 #include "findings.h"
 
-#include "alone.h"
 #include "copies.h"
 #include "event.h"
 
@@ -59,7 +58,7 @@ static bool pulls_low(const struct moment *m, size_t index)
     const size_t count = put(&alone, m, index, m->judged->event);
     uint64_t copied;
 
-    alone_slots(&alone, TROUGHIRON_WRITE_ONE, 1);
+    alone_add(&alone, m->judged->session->events.data[m->judged->event], 1);
 
     const bool low = alone_run(&alone, &copied) && alone.answers.data[count] == 0;
 
@@ -95,6 +94,16 @@ static void put_registers(uint8_t *body)
     memset(body + SCRATCHPAD, 0xFF, PAGE_SIZE);
 }
 
+/* A device alone, with the events since the last reset that it hears, that of the judgement included. */
+static void put_part(struct alone *alone, const struct moment *m, size_t index)
+{
+    const struct carried c = carried_of(m->judged);
+    struct parts parts = parts_of(&c, index);
+
+    alone_put_part(alone, &m->image, index, &c, part_at(&parts, m->judged->event).first, m->judged->event + 1);
+    parts_free(&parts);
+}
+
 /*
  * Whether a device takes the command. One that waits answers ones and stays as it is, whatever comes. To one that takes
  * it come zeros in the place of address and data, or of a pattern; and then it answers with a zero, or has other bytes
@@ -104,19 +113,22 @@ static bool takes_command(const struct moment *m, size_t index)
 {
     enum { ZEROS = 24, READS = 8 };
     const bool add_only = image_device(&m->image, index).kind->add_only;
+    const bool overdrive = is_overdrive(m->judged->session->events.data[m->judged->event]);
     struct alone alone = { 0 };
-    const size_t count = put(&alone, m, index, m->judged->event + 1) + ZEROS;
-    uint8_t *const body = alone.image.data + ALONE;
     uint64_t copied;
 
-    alone_slots(&alone, TROUGHIRON_WRITE_ZERO, ZEROS);
-    alone_slots(&alone, TROUGHIRON_WRITE_ONE, READS);
+    put_part(&alone, m, index);
+
+    uint8_t *const body = alone.image.data + ALONE;
+
+    alone_add(&alone, slot_of(false, overdrive), ZEROS);
+    alone_add(&alone, slot_of(true, overdrive), READS);
     if (!add_only)
         put_registers(body);
 
     const bool run = alone_run(&alone, &copied);
-    const bool taken =
-        run && (memchr(alone.answers.data + count, 0, READS) || (!add_only && body[SCRATCHPAD] != 0xFF));
+    const bool zero = run && memchr(alone.answers.data + alone.answers.length - READS, 0, READS);
+    const bool taken = zero || (run && !add_only && body[SCRATCHPAD] != 0xFF);
 
     alone_free(&alone);
     return taken;

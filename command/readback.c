@@ -1,17 +1,18 @@
 #include "readback.h"
 
-#include "alone.h"
 #include "event.h"
 
 #include <string.h>
 
 /*
- * The transactions before the copy are each run with the device alone, with registers that tell what it does: whether
- * it has taken the address of a write scratchpad, and where it begins to send the registers.
+ * The parts of the session before the copy are each run with the device alone, with registers that tell what it does:
+ * whether it has taken the address of a write scratchpad, and where it begins to send the registers.
  */
 struct search {
     const struct carried *carried;
     size_t device;
+    struct parts parts;
+    size_t last; /* the part with the copy */
     struct alone alone;
 };
 
@@ -19,38 +20,41 @@ enum { READ_SCRATCHPAD = 0xAA, ADDRESS_BITS = 16 };
 
 size_t transaction_start(const struct carried *c, size_t event)
 {
-    while (event > 0 && !is_reset(c->events->data[event]))
+    while (event > 0 && !is_regular_reset(c->events->data[event]))
         event--;
     return event;
 }
 
-/* The device alone, with the events from a reset up to a place. */
+/* The device alone, with the events of a part up to a place. */
 static void put(struct search *s, size_t first, size_t end)
 {
-    const struct carried *const c = s->carried;
+    alone_put_part(&s->alone, s->carried->image, s->device, s->carried, first, end);
+}
 
-    alone_put(&s->alone, c->image, s->device);
-    alone_receive(&s->alone, c->events->data + first, c->levels + first, end - first);
+/* Adds slots at the speed of the last event before a place. */
+static void add_slots(struct search *s, size_t place, bool one, size_t count)
+{
+    alone_add(&s->alone, slot_of(one, is_overdrive(s->carried->events->data[place - 1])), count);
 }
 
 /* ------------------------------------------------------------------ */
 /* The last write                                                      */
 
 /*
- * Whether a write scratchpad has its whole address in a transaction, with some more slots after it: that clears AA, and
- * nothing else in a transaction does.
+ * Whether a write scratchpad has its whole address in a part, with some more slots after it: that clears AA, and
+ * nothing else in a part does.
  */
 static bool writes(struct search *s, size_t first, size_t end, size_t more)
 {
     uint64_t copied;
 
     put(s, first, end);
-    alone_slots(&s->alone, TROUGHIRON_WRITE_ZERO, more);
+    add_slots(s, end, false, more);
     s->alone.image.data[ALONE + ES] = TROUGHIRON_ES_AA;
     return alone_run(&s->alone, &copied) && !(s->alone.image.data[ALONE + ES] & TROUGHIRON_ES_AA);
 }
 
-/* The event of a transaction that completes the address of its write scratchpad. */
+/* The event of a part that completes the address of its write scratchpad. */
 static size_t address_event(struct search *s, size_t first, size_t end)
 {
     size_t without = first;
@@ -66,17 +70,18 @@ static size_t address_event(struct search *s, size_t first, size_t end)
     return end - 1;
 }
 
-/* The last write before a transaction, or the last of those that are cut. */
-static void find_write(struct search *s, struct readback *r, size_t end)
+/* The last write before the part with the copy, or the last of those that are cut. */
+static void find_write(struct search *s, struct readback *r)
 {
-    for (size_t first; end > 0 && !r->written; end = first) {
-        first = transaction_start(s->carried, end - 1);
-        r->written = writes(s, first, end, 0);
+    for (size_t i = s->last; i > 0 && !r->written; i--) {
+        const struct part part = s->parts.list[i - 1];
+
+        r->written = writes(s, part.first, part.end, 0);
         if (r->written) {
-            r->write = address_event(s, first, end);
-        } else if (!r->cut && writes(s, first, end, ADDRESS_BITS)) {
+            r->write = address_event(s, part.first, part.end);
+        } else if (!r->cut && writes(s, part.first, part.end, ADDRESS_BITS)) {
             r->cut = true;
-            r->cut_at = end - 1;
+            r->cut_at = part.end - 1;
         }
     }
 }
@@ -92,16 +97,16 @@ static bool sends(struct search *s, size_t first, size_t place, uint8_t mask)
     uint64_t copied;
 
     put(s, first, place);
-    alone_slots(&s->alone, TROUGHIRON_WRITE_ONE, 8 * REGISTERS);
+    add_slots(s, place, true, 8 * REGISTERS);
     memcpy(s->alone.image.data + ALONE + TA1, registers, REGISTERS);
     if (!alone_run(&s->alone, &copied))
         return false;
     for (size_t i = 0; i < REGISTERS; i++)
-        sent[i] = byte_of_levels(s->alone.answers.data + (place - first) + 8 * i);
+        sent[i] = byte_of_levels(s->alone.answers.data + s->alone.answers.length - 8 * (REGISTERS - i));
     return memcmp(sent, registers, REGISTERS) == 0;
 }
 
-/* The place after the command of a read scratchpad in a transaction, where registers are sent whatever they are. */
+/* The place after the command of a read scratchpad in a part, where registers are sent whatever they are. */
 static bool find_read(struct search *s, size_t first, size_t end, size_t *from)
 {
     for (*from = first + 9; *from <= end; ++*from)
@@ -121,7 +126,7 @@ static size_t right(const struct readback *r, const uint8_t *shown, size_t count
     return number;
 }
 
-/* Takes the read of a transaction where it shows more of what is needed than those after it. */
+/* Takes the read of a part where it shows more of what is needed than those after it. */
 static void look_at_read(struct search *s, struct readback *r, size_t first, size_t end)
 {
     uint8_t shown[MOST_SHOWN];
@@ -139,12 +144,10 @@ static void look_at_read(struct search *s, struct readback *r, size_t first, siz
     memcpy(r->shown, shown, count);
 }
 
-static void find_reads(struct search *s, struct readback *r, size_t end)
+static void find_reads(struct search *s, struct readback *r)
 {
-    for (size_t first; end > r->write; end = first) {
-        first = transaction_start(s->carried, end - 1);
-        look_at_read(s, r, first, end);
-    }
+    for (size_t i = s->last; i > 0 && s->parts.list[i - 1].end > r->write; i--)
+        look_at_read(s, r, s->parts.list[i - 1].first, s->parts.list[i - 1].end);
 }
 
 /* ------------------------------------------------------------------ */
@@ -172,15 +175,17 @@ static void put_needed(struct readback *r, const struct carried *c, size_t devic
 
 struct readback readback_of(const struct carried *c, size_t device, size_t event)
 {
-    const size_t start = transaction_start(c, event);
-    struct search s = { .carried = c, .device = device };
+    struct search s = { .carried = c, .device = device, .parts = parts_of(c, device) };
     struct readback r = { 0 };
 
     put_needed(&r, c, device, event);
-    find_write(&s, &r, start);
+    while (s.last + 1 < s.parts.count && s.parts.list[s.last + 1].first <= event)
+        s.last++;
+    find_write(&s, &r);
     if (r.written)
-        find_reads(&s, &r, start);
+        find_reads(&s, &r);
     alone_free(&s.alone);
+    parts_free(&s.parts);
     return r;
 }
 

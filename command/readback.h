@@ -5,15 +5,7 @@
 #ifndef READBACK_H
 #define READBACK_H
 
-#include "bytes.h"
-#include "kind.h"
-
-/* A session as the line carried it. */
-struct carried {
-    const struct bytes *image; /* of the devices, before the first event */
-    const struct bytes *events;
-    const uint8_t *levels; /* that the line answered */
-};
+#include "parts.h"
 
 /* TA1, TA2 and E/S, and then bytes of the scratchpad. */
 enum { REGISTERS = 3, MOST_SHOWN = REGISTERS + PAGE_SIZE };
@@ -37,7 +29,7 @@ struct readback readback_of(const struct carried *c, size_t device, size_t event
 /* The first byte that is needed and that the nearest read did not show, or the number of those needed. */
 size_t readback_missing(const struct readback *r);
 
-/* The reset that the transaction of an event begins with. */
+/* The reset at regular speed that the transaction of an event begins with. */
 size_t transaction_start(const struct carried *c, size_t event);
 
 #endif
