@@ -1,6 +1,6 @@
 -- Every recording of the table has its verdict, by computing in one pass. Assumes nothing.
 use mathlib.Core.Path.{_≡_, refl, sym, _∙_}
-use mathlib.Core.List.{List, [], _∷_, _++_}
+use mathlib.Core.List.{List, [], _∷_}
 use lib.ListN.{length}
 use Rattle.bits.specs.Bit.{bitOf, bitAt, atLevel, withBit, putBit, shiftIn, levelByte}
 use Rattle.bits.specs.Crc.{crcBit, crcBits, crcByte, crcFrom, registrationCheck}
@@ -28,7 +28,7 @@ use Rattle.bus.specs.Bus.{takenState, hears, answersLow, masterHigh, heardState
 use Rattle.judge.specs.declared.Verdict.the-variants.{Accepted}
 use Rattle.judge.specs.Judge.{none as nowhere, orHere}
 use Rattle.judge.proofs.OnePass.{passFrom, one-pass}
-use Rattle.example_laws.specs.Judged.{Recording, Right, Every, none, _and_, acceptedRows, answersRows, commandRows, copyRows, table, overdriveRow, Judged}
+use Rattle.example_laws.specs.Judged.{Recording, Right, Every, none, _and_, table, overdriveRow, Judged}
 
 -- one pass gives the verdict
 abbrev Passed : Recording → Type 0
@@ -45,11 +45,8 @@ every : (rs : List Recording) → All rs → Every rs
 every [] a = none
 every (r ∷ rs) a = right r (a .0) and every rs (a .1)
 
-both : (rs qs : List Recording) → Every rs → Every qs → Every (rs ++ qs)
-both [] qs none b = b
-both (r ∷ rs) qs (p and a) b = p and both rs qs a b
-
-accepted : All acceptedRows
+-- the checker computes each of them
+computed : All table × Passed overdriveRow
 unfolding bitOf bitAt atLevel withBit putBit shiftIn crcBit crcBits crcByte crcFrom registrationCheck kindOf bodySize memorySize isSram isEprom isUnknown isFlat hasOverdrive speedKnown packedAt
     someBelow equalBytes firstCause editionKnown batteryMalformed entryMalformed imageMalformed imageTooLong bodyMisplaced codeRefused someCodeRefused codeRepeated someCodeRepeated imageCauses imageRefusal transferSends
     addressed romCommand overdriveCommand commandSpeed romSpeed afterRead afterMatch afterOverdriveMatch romNext romRange memoryCommand memoryNext stageNext stageSpeed speedAfterSlot memoryWrite stageWrite memoryReset stageReset memoryPulse stagePulse
@@ -64,79 +61,10 @@ unfolding bitOf bitAt atLevel withBit putBit shiftIn crcBit crcBits crcByte crcF
     loadAddress
     isSlot isOverdrive heardSlot passedOver isLast isCommand isMemoryCommand completes isHighByte isAddressEnd isWriteAddress writes isMade acceptsCopy bitsFrom wantedBits showsBits someReadShows someWrite
     shownSinceWrite momentsOf countBelow orHere
-accepted = (refl, (refl, (refl, (refl, tt))))
-
-answers : All answersRows
-unfolding bitOf bitAt atLevel withBit putBit shiftIn crcBit crcBits crcByte crcFrom registrationCheck kindOf bodySize memorySize isSram isEprom isUnknown isFlat hasOverdrive speedKnown packedAt
-    someBelow equalBytes firstCause editionKnown batteryMalformed entryMalformed imageMalformed imageTooLong bodyMisplaced codeRefused someCodeRefused codeRepeated someCodeRepeated imageCauses imageRefusal transferSends
-    addressed romCommand overdriveCommand commandSpeed romSpeed afterRead afterMatch afterOverdriveMatch romNext romRange memoryCommand memoryNext stageNext stageSpeed speedAfterSlot memoryWrite stageWrite memoryReset stageReset memoryPulse stagePulse
-    memoryProgram stageProgram sendsAsIs transferAfterSlot stateAfterSlotAsIs bodyAfterSlotAsIs bodyAfterResetAsIs stateAfterPulseAsIs bodyAfterPulseAsIs memoryRange stageRange stateInRange orWaiting
-    sendsOf stateAfterSlot bodyAfterSlot bodyAfterReset stateAfterPulse bodyAfterPulse eventOf takenState hears answersLow masterHigh heardState heardBody unheardState heardCopied pullsLow someLow levelOf nextState nextBody
-    nextDevice busStepAt busStep levelByte withAnswer runTrace devicesFrom waitingDevices bodiesOf leftByRun runAt runOf loadTarget beginByte
-    storeBit writeBit afterDataBit endData afterRegister afterScratchpad patternSame afterPattern copyLength copyBytes copyToMemory acceptCopy
-    bytesCopied patternCopy sramCopy memoryCopy stageCopy copyInSlotAsIs copyInSlot bytesInSlot copiedIn copiedByAll copiedInTrace
-    patternWrite readMemory sramCommand sramNext sramWrite sramReset dataRange sramRange fieldStart fieldLength storedByte fieldRead readCommand
-    writeCommand cutAddress commandCrc sendByte readLatch afterCrc endsSpan afterByte writeLatch afterEpromData pageProtected programmedByte programmedBody
-    sendStored nextWritePass epromCommand epromNext epromPulse epromProgram epromRange someByte badTrace noFirstReset badPulse noRunRoom runCauses runRefusal
-    loadAddress
-    isSlot isOverdrive heardSlot passedOver isLast isCommand isMemoryCommand completes isHighByte isAddressEnd isWriteAddress writes isMade acceptsCopy bitsFrom wantedBits showsBits someReadShows someWrite
-    shownSinceWrite momentsOf countBelow orHere
-answers = (refl, (refl, (refl, tt)))
-
-commands : All commandRows
-unfolding bitOf bitAt atLevel withBit putBit shiftIn crcBit crcBits crcByte crcFrom registrationCheck kindOf bodySize memorySize isSram isEprom isUnknown isFlat hasOverdrive speedKnown packedAt
-    someBelow equalBytes firstCause editionKnown batteryMalformed entryMalformed imageMalformed imageTooLong bodyMisplaced codeRefused someCodeRefused codeRepeated someCodeRepeated imageCauses imageRefusal transferSends
-    addressed romCommand overdriveCommand commandSpeed romSpeed afterRead afterMatch afterOverdriveMatch romNext romRange memoryCommand memoryNext stageNext stageSpeed speedAfterSlot memoryWrite stageWrite memoryReset stageReset memoryPulse stagePulse
-    memoryProgram stageProgram sendsAsIs transferAfterSlot stateAfterSlotAsIs bodyAfterSlotAsIs bodyAfterResetAsIs stateAfterPulseAsIs bodyAfterPulseAsIs memoryRange stageRange stateInRange orWaiting
-    sendsOf stateAfterSlot bodyAfterSlot bodyAfterReset stateAfterPulse bodyAfterPulse eventOf takenState hears answersLow masterHigh heardState heardBody unheardState heardCopied pullsLow someLow levelOf nextState nextBody
-    nextDevice busStepAt busStep levelByte withAnswer runTrace devicesFrom waitingDevices bodiesOf leftByRun runAt runOf loadTarget beginByte
-    storeBit writeBit afterDataBit endData afterRegister afterScratchpad patternSame afterPattern copyLength copyBytes copyToMemory acceptCopy
-    bytesCopied patternCopy sramCopy memoryCopy stageCopy copyInSlotAsIs copyInSlot bytesInSlot copiedIn copiedByAll copiedInTrace
-    patternWrite readMemory sramCommand sramNext sramWrite sramReset dataRange sramRange fieldStart fieldLength storedByte fieldRead readCommand
-    writeCommand cutAddress commandCrc sendByte readLatch afterCrc endsSpan afterByte writeLatch afterEpromData pageProtected programmedByte programmedBody
-    sendStored nextWritePass epromCommand epromNext epromPulse epromProgram epromRange someByte badTrace noFirstReset badPulse noRunRoom runCauses runRefusal
-    loadAddress
-    isSlot isOverdrive heardSlot passedOver isLast isCommand isMemoryCommand completes isHighByte isAddressEnd isWriteAddress writes isMade acceptsCopy bitsFrom wantedBits showsBits someReadShows someWrite
-    shownSinceWrite momentsOf countBelow orHere
-commands = (refl, (refl, (refl, tt)))
-
-copies : All copyRows
-unfolding bitOf bitAt atLevel withBit putBit shiftIn crcBit crcBits crcByte crcFrom registrationCheck kindOf bodySize memorySize isSram isEprom isUnknown isFlat hasOverdrive speedKnown packedAt
-    someBelow equalBytes firstCause editionKnown batteryMalformed entryMalformed imageMalformed imageTooLong bodyMisplaced codeRefused someCodeRefused codeRepeated someCodeRepeated imageCauses imageRefusal transferSends
-    addressed romCommand overdriveCommand commandSpeed romSpeed afterRead afterMatch afterOverdriveMatch romNext romRange memoryCommand memoryNext stageNext stageSpeed speedAfterSlot memoryWrite stageWrite memoryReset stageReset memoryPulse stagePulse
-    memoryProgram stageProgram sendsAsIs transferAfterSlot stateAfterSlotAsIs bodyAfterSlotAsIs bodyAfterResetAsIs stateAfterPulseAsIs bodyAfterPulseAsIs memoryRange stageRange stateInRange orWaiting
-    sendsOf stateAfterSlot bodyAfterSlot bodyAfterReset stateAfterPulse bodyAfterPulse eventOf takenState hears answersLow masterHigh heardState heardBody unheardState heardCopied pullsLow someLow levelOf nextState nextBody
-    nextDevice busStepAt busStep levelByte withAnswer runTrace devicesFrom waitingDevices bodiesOf leftByRun runAt runOf loadTarget beginByte
-    storeBit writeBit afterDataBit endData afterRegister afterScratchpad patternSame afterPattern copyLength copyBytes copyToMemory acceptCopy
-    bytesCopied patternCopy sramCopy memoryCopy stageCopy copyInSlotAsIs copyInSlot bytesInSlot copiedIn copiedByAll copiedInTrace
-    patternWrite readMemory sramCommand sramNext sramWrite sramReset dataRange sramRange fieldStart fieldLength storedByte fieldRead readCommand
-    writeCommand cutAddress commandCrc sendByte readLatch afterCrc endsSpan afterByte writeLatch afterEpromData pageProtected programmedByte programmedBody
-    sendStored nextWritePass epromCommand epromNext epromPulse epromProgram epromRange someByte badTrace noFirstReset badPulse noRunRoom runCauses runRefusal
-    loadAddress
-    isSlot isOverdrive heardSlot passedOver isLast isCommand isMemoryCommand completes isHighByte isAddressEnd isWriteAddress writes isMade acceptsCopy bitsFrom wantedBits showsBits someReadShows someWrite
-    shownSinceWrite momentsOf countBelow orHere
-copies = (refl, (refl, (refl, (refl, (refl, (refl, tt))))))
-
-overdrive : Passed overdriveRow
-unfolding bitOf bitAt atLevel withBit putBit shiftIn crcBit crcBits crcByte crcFrom registrationCheck kindOf bodySize memorySize isSram isEprom isUnknown isFlat hasOverdrive speedKnown packedAt
-    someBelow equalBytes firstCause editionKnown batteryMalformed entryMalformed imageMalformed imageTooLong bodyMisplaced codeRefused someCodeRefused codeRepeated someCodeRepeated imageCauses imageRefusal transferSends
-    addressed romCommand overdriveCommand commandSpeed romSpeed afterRead afterMatch afterOverdriveMatch romNext romRange memoryCommand memoryNext stageNext stageSpeed speedAfterSlot memoryWrite stageWrite memoryReset stageReset memoryPulse stagePulse
-    memoryProgram stageProgram sendsAsIs transferAfterSlot stateAfterSlotAsIs bodyAfterSlotAsIs bodyAfterResetAsIs stateAfterPulseAsIs bodyAfterPulseAsIs memoryRange stageRange stateInRange orWaiting
-    sendsOf stateAfterSlot bodyAfterSlot bodyAfterReset stateAfterPulse bodyAfterPulse eventOf takenState hears answersLow masterHigh heardState heardBody unheardState heardCopied pullsLow someLow levelOf nextState nextBody
-    nextDevice busStepAt busStep levelByte withAnswer runTrace devicesFrom waitingDevices bodiesOf leftByRun runAt runOf loadTarget beginByte
-    storeBit writeBit afterDataBit endData afterRegister afterScratchpad patternSame afterPattern copyLength copyBytes copyToMemory acceptCopy
-    bytesCopied patternCopy sramCopy memoryCopy stageCopy copyInSlotAsIs copyInSlot bytesInSlot copiedIn copiedByAll copiedInTrace
-    patternWrite readMemory sramCommand sramNext sramWrite sramReset dataRange sramRange fieldStart fieldLength storedByte fieldRead readCommand
-    writeCommand cutAddress commandCrc sendByte readLatch afterCrc endsSpan afterByte writeLatch afterEpromData pageProtected programmedByte programmedBody
-    sendStored nextWritePass epromCommand epromNext epromPulse epromProgram epromRange someByte badTrace noFirstReset badPulse noRunRoom runCauses runRefusal
-    loadAddress
-    isSlot isOverdrive heardSlot passedOver isLast isCommand isMemoryCommand completes isHighByte isAddressEnd isWriteAddress writes isMade acceptsCopy bitsFrom wantedBits showsBits someReadShows someWrite
-    shownSinceWrite momentsOf countBelow orHere
-overdrive = refl
-
-rows : Every table
-rows =
-    both _ _ (both _ _ (both _ _ (every acceptedRows accepted) (every answersRows answers)) (every commandRows commands)) (every copyRows copies)
+computed = (
+  (refl, (refl, (refl, (refl, (refl, (refl, (refl, (refl, (refl, (refl, (refl, (refl, (refl, (refl, (refl, (refl, (refl, (refl, (refl, (refl, (refl, tt))))))))))))))))))))),
+  refl,
+)
 
 pub judged : Judged
-judged = record { rows = rows; at-overdrive = right overdriveRow overdrive }
+judged = record { rows = every table (computed .0); at-overdrive = right overdriveRow (computed .1) }

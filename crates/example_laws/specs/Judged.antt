@@ -9,7 +9,7 @@ use Rattle.judge.specs.declared.Rule.the-variants.{Answers, Command, Copy}
 use Rattle.judge.specs.declared.Verdict.{Verdict}
 use Rattle.judge.specs.declared.Verdict.the-variants.{Accepted, Broken}
 use Rattle.judge.specs.Judge.{verdictOf}
-use Rattle.example_laws.specs.Session.{SessionStep, reset, write, read, skip, select, eventsOfSteps}
+use Rattle.example_laws.specs.Session.{SessionStep, reset, write, writeBits, read, skip, select, eventsOfSteps}
 use Rattle.example_laws.specs.Session.{levelsOfSteps, overdriveReset, unheardReset, overdriveWrite}
 use Rattle.example_laws.specs.Images.{ds1992Code, secondCode, zeros, sramBody, blankDs1992, blankDs1996}
 use Rattle.example_laws.specs.Images.{twoDs1992, twoBytes}
@@ -60,6 +60,10 @@ readBack es = readScratchpadSteps (0x26 ∷ 0x00 ∷ es ∷ 0xA1 ∷ 0xA2 ∷ []
 abbrev pub copied : ℕ → List SessionStep
 copied es = skip (0x55 ∷ 0x26 ∷ 0x00 ∷ es ∷ [])
 
+-- 33: read memory loads this target address, and no byte is read.
+abbrev pub targetMoved : ℕ → List SessionStep
+targetMoved target = skip (0xF0 ∷ target ∷ 0x00 ∷ [])
+
 -- ---- two DS1992, the first with two bytes written
 
 abbrev pub twoDevices : List ℕ
@@ -85,6 +89,14 @@ acceptedRows =
     -- A later read that is cut does no harm.
     ∷ recorded blankDs1992
     (twoWritten ++ readBack 0x07 ++ readScratchpadSteps (0x26 ∷ 0x00 ∷ []) ++ copied 0x07) Accepted
+    -- A write that is cut before its 16th address bit is none, and does not end the one before it.
+    ∷ recorded blankDs1992 (twoWritten ++ readBack 0x07 ++ skip (0x0F ∷ 0x26 ∷ []) ++ copied 0x07) Accepted
+    -- A target that read memory moves away and back (document 02, item 3) does no harm.
+    ∷ recorded blankDs1992 (twoWritten ++ readBack 0x07 ++ targetMoved 0x00 ++ targetMoved 0x26 ++ copied 0x07) Accepted
+    -- No bytes lie between T4:T0, which is 1Eh, and the ending offset 07h, so that the registers suffice.
+    ∷ recorded blankDs1992
+    (twoWritten ++ targetMoved 0x3E ++ readScratchpadSteps (0x3E ∷ 0x00 ∷ 0x07 ∷ []) ++ skip (0x55 ∷ 0x3E ∷ 0x00 ∷ 0x07 ∷ []))
+    Accepted
     -- What comes at overdrive in the middle of a read is passed over.
     ∷ recorded blankDs1992
     (twoWritten
@@ -127,6 +139,16 @@ copyRows =
     (Broken Copy 146)
     -- The first copy set AA, which no read showed before the second.
     ∷ recorded blankDs1992 (twoWritten ++ readBack 0x07 ++ copied 0x07 ++ copied 0x87) (Broken Copy 187)
+    -- A second write ends within a byte, so that the reset after it sets PF, which the read before it did not show.
+    ∷ recorded blankDs1992
+    (twoWritten ++ readBack 0x07 ++ skip (0x0F ∷ 0x26 ∷ 0x00 ∷ 0xA1 ∷ []) ++ writeBits 3 0xA2 ∷ copied 0x27)
+    (Broken Copy 190)
+    -- A target past the memory copies nothing, and its bytes are to be shown nevertheless.
+    ∷ recorded blankDs1992
+    (skip (0x0F ∷ 0x86 ∷ 0x00 ∷ 0xA1 ∷ 0xA2 ∷ [])
+    ++ readScratchpadSteps (0x86 ∷ 0x00 ∷ 0x07 ∷ [])
+    ++ skip (0x55 ∷ 0x86 ∷ 0x00 ∷ 0x07 ∷ []))
+    (Broken Copy 130)
     ∷ []
 
 abbrev pub table : List Recording
