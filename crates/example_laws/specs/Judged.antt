@@ -95,7 +95,10 @@ acceptedRows =
     ∷ recorded blankDs1992 (twoWritten ++ readBack 0x07 ++ targetMoved 0x00 ++ targetMoved 0x26 ++ copied 0x07) Accepted
     -- No bytes lie between T4:T0, which is 1Eh, and the ending offset 07h, so that the registers suffice.
     ∷ recorded blankDs1992
-    (twoWritten ++ targetMoved 0x3E ++ readScratchpadSteps (0x3E ∷ 0x00 ∷ 0x07 ∷ []) ++ skip (0x55 ∷ 0x3E ∷ 0x00 ∷ 0x07 ∷ []))
+    (twoWritten
+    ++ targetMoved 0x3E
+    ++ readScratchpadSteps (0x3E ∷ 0x00 ∷ 0x07 ∷ [])
+    ++ skip (0x55 ∷ 0x3E ∷ 0x00 ∷ 0x07 ∷ []))
     Accepted
     -- What comes at overdrive in the middle of a read is passed over.
     ∷ recorded blankDs1992
