@@ -47,8 +47,10 @@ static void explain_answer(FILE *out, const struct judged *j, const struct findi
     const uint8_t event = j->session->events.data[j->event], level = j->levels[j->event];
 
     fprintf(out, "    recorded as %u, and the bench answers %u: ", j->recorded[j->event], level);
-    if (is_reset(event))
+    if (is_regular_reset(event))
         fputs(level ? "there is no device on the line\n" : "a device is on the line\n", out);
+    else if (is_reset(event))
+        fprintf(out, "%s device is at overdrive to hear the reset\n", level ? "no" : "a");
     else if (!is_slot(event))
         fputs("a program pulse is always answered so\n", out);
     else if (!sends_one(event))

@@ -75,18 +75,6 @@ static void find_answer(struct findings *f, const struct moment *m)
 /* ------------------------------------------------------------------ */
 /* B: who is addressed                                                 */
 
-/* The command that is complete with the event: the byte that the last eight slots spell. */
-static uint8_t command_at(const struct judged *j)
-{
-    uint8_t levels[8] = { 0 };
-    size_t left = 8;
-
-    for (size_t i = j->event + 1; i > 0 && left > 0; i--)
-        if (is_slot(j->session->events.data[i - 1]))
-            levels[--left] = j->levels[i - 1];
-    return byte_of_levels(levels);
-}
-
 /* Registers that zeros are the pattern of, and a scratchpad that zeros change. */
 static void put_registers(uint8_t *body)
 {
@@ -136,7 +124,9 @@ static bool takes_command(const struct moment *m, size_t index)
 
 static void find_command(struct findings *f, const struct moment *m)
 {
-    f->command = command_at(m->judged);
+    const struct carried c = carried_of(m->judged);
+
+    f->command = byte_before(&c, m->judged->event + 1);
     find_devices(f, m, takes_command);
 }
 

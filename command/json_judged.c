@@ -32,7 +32,7 @@ static void add_readback(struct json *j, const struct readback *r)
 
     json_bytes(j, "needed", r->needed, r->needed_count);
     add_event(j, "write", r->written, r->write);
-    add_event(j, "cut_write", r->cut && !r->written, r->cut_at);
+    add_event(j, "cut_write", r->cut, r->cut_at);
     add_event(j, "read", r->read, r->command);
     if (r->read && missing < r->needed_count) {
         json_bytes(j, "shown", r->shown, r->shown_count);

@@ -70,20 +70,41 @@ static size_t address_event(struct search *s, size_t first, size_t end)
     return end - 1;
 }
 
-/* The last write before the part with the copy, or the last of those that are cut. */
+/* The last write before the part with the copy. */
 static void find_write(struct search *s, struct readback *r)
 {
     for (size_t i = s->last; i > 0 && !r->written; i--) {
         const struct part part = s->parts.list[i - 1];
 
         r->written = writes(s, part.first, part.end, 0);
-        if (r->written) {
+        if (r->written)
             r->write = address_event(s, part.first, part.end);
-        } else if (!r->cut && writes(s, part.first, part.end, ADDRESS_BITS)) {
-            r->cut = true;
-            r->cut_at = part.end - 1;
+    }
+}
+
+/*
+ * Whether a write scratchpad of a part is cut, and the last event of it that the device heard: slots at the speed of
+ * that event would complete its address.
+ */
+static bool is_cut(struct search *s, const struct part *part, size_t *last)
+{
+    bool cut = false;
+
+    for (size_t from = part->first, end; from < part->end; from = end) {
+        end = same_speed_end(s->carried, part, from);
+        if (writes(s, part->first, end, ADDRESS_BITS)) {
+            cut = true;
+            *last = end - 1;
         }
     }
+    return cut;
+}
+
+/* The last write that is cut, where no other comes before the copy. */
+static void find_cut(struct search *s, struct readback *r)
+{
+    for (size_t i = s->last; i > 0 && !r->cut; i--)
+        r->cut = is_cut(s, &s->parts.list[i - 1], &r->cut_at);
 }
 
 /* ------------------------------------------------------------------ */
@@ -110,7 +131,7 @@ static bool sends(struct search *s, size_t first, size_t place, uint8_t mask)
 static bool find_read(struct search *s, size_t first, size_t end, size_t *from)
 {
     for (*from = first + 9; *from <= end; ++*from)
-        if (byte_of_levels(s->carried->levels + *from - 8) == READ_SCRATCHPAD && sends(s, first, *from, 0x00) &&
+        if (byte_before(s->carried, *from) == READ_SCRATCHPAD && sends(s, first, *from, 0x00) &&
             sends(s, first, *from, 0xFF))
             return true;
     return false;
@@ -126,16 +147,39 @@ static size_t right(const struct readback *r, const uint8_t *shown, size_t count
     return number;
 }
 
+/*
+ * The whole bytes that the line had in it from a place on, in slots that the device hears. At regular speed it passes
+ * over what is at overdrive; at overdrive a slot at regular speed ends its read.
+ */
+static size_t show(const struct search *s, size_t from, size_t end, uint8_t *shown, size_t most)
+{
+    const uint8_t *const events = s->carried->events->data;
+    const bool overdrive = is_overdrive(events[from - 1]);
+    uint8_t levels[8];
+    size_t bits = 0;
+
+    for (size_t i = from; i < end && bits < 8 * most; i++) {
+        if (is_overdrive(events[i]) == overdrive) {
+            levels[bits++ % 8] = s->carried->levels[i];
+            if (bits % 8 == 0)
+                shown[bits / 8 - 1] = byte_of_levels(levels);
+        } else if (overdrive)
+            break;
+    }
+    return bits / 8;
+}
+
 /* Takes the read of a part where it shows more of what is needed than those after it. */
 static void look_at_read(struct search *s, struct readback *r, size_t first, size_t end)
 {
     uint8_t shown[MOST_SHOWN];
-    size_t from, count;
+    size_t from;
 
     if (!find_read(s, first, end, &from))
         return;
-    for (count = 0; count < r->needed_count && from + 8 * (count + 1) <= end; count++)
-        shown[count] = byte_of_levels(s->carried->levels + from + 8 * count);
+
+    const size_t count = show(s, from, end, shown, r->needed_count);
+
     if (r->read && right(r, shown, count) <= right(r, r->shown, r->shown_count))
         return;
     r->read = true;
@@ -184,6 +228,8 @@ struct readback readback_of(const struct carried *c, size_t device, size_t event
     find_write(&s, &r);
     if (r.written)
         find_reads(&s, &r);
+    else
+        find_cut(&s, &r);
     alone_free(&s.alone);
     parts_free(&s.parts);
     return r;

@@ -15,7 +15,7 @@ struct readback {
     size_t needed_count;
     bool written; /* by a write scratchpad; its 16th address bit is the event write */
     size_t write;
-    bool cut; /* not written, but there is a write that ends before that bit, with the event cut_at */
+    bool cut; /* not written, but there are writes that end before that bit, the last of them with the event cut_at */
     size_t cut_at;
     bool read; /* by a read scratchpad after it; the command of the nearest is complete with the event command */
     size_t command;

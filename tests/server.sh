@@ -3,6 +3,7 @@
 # CC and CFLAGS name another compiler and further options.
 root=$PWD
 build=target/tests/command
+rm -rf "$build" # one that was built with other options would be taken as it is
 make -s BUILD="$build" CC="${CC:-cc}" CFLAGS="-O2 ${CFLAGS:-}"
 troughiron=$root/$build/troughiron
 test=tests/$(basename "$0")
