@@ -155,10 +155,10 @@ module _ (trace answers : List ℕ) (m : ℕ → Moment) where
     Fast j overdrive = overdrive ≡ true → state j .overdrive ≡ true
 
     fast-back : (j : ℕ) (after : Bool) → j < k → Fast (suc j) after → Fast j (overdriveBefore (byte j) after)
-    unfolding overdriveBefore
+    unfolding overdriveBefore passedAt
     fast-back j after h fast e =
-        let p = both-true (isOverdrive (eventOf (byte j))) after e in
-        fast-before (eventOf (byte j)) (lv j) (deviceWith K (m j .device .body) (state j)) (p .0)
+        let p = both-true (passedAt (byte j) false) after e in
+        fast-before (eventOf (byte j)) (lv j) (deviceWith K (m j .device .body) (state j)) (both-true (isOverdrive (eventOf (byte j))) _ (p .0) .0)
         (sym (ap (λ (s : LineState). s .overdrive) (way .next-is j h)) ∙ fast (p .1))
 
     -- a reset that the device hears begins a part, and says nothing
@@ -191,14 +191,15 @@ module _ (trace answers : List ℕ) (m : ℕ → Moment) where
         }
 
     begins : (j : ℕ) (after : Bool) → j < k → Fast (suc j) after → beginsPart (byte j) after ≡ true → Begins j
-    unfolding beginsPart overdriveBefore isOverdrive
+    unfolding beginsPart overdriveBefore passedAt isOverdrive hears
     begins j after h fast e = split (eqb (byte j) 2) refl e
       where
         split : (x : Bool) → eqb (byte j) 2 ≡ x → (x || eqb (byte j) 6 && after) ≡ true → Begins j
         split true s e = regular-begins j h s
         split false s e =
             let p = both-true (eqb (byte j) 6) after e in
-            let known : overdriveBefore (byte j) after ≡ true = (λ i. isOverdrive (overdrive-reset-event (byte j) (p .0) i) && p .1 i) in
+            let event = overdrive-reset-event (byte j) (p .0) in
+            let known : overdriveBefore (byte j) after ≡ true = (λ i. (isOverdrive (event i) && not (hears (event i) (lineState waiting false))) && p .1 i) in
             overdrive-begins j h (p .0) (fast-back j after h fast known)
 
     writes-reset : (j : ℕ) → heardSlot (m j) ≡ false → writes (m j) ≡ false

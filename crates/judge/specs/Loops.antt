@@ -162,10 +162,10 @@ abbrev pub backTo : ℕ → Bool → Bool → Bool → Back
 backTo end shown decided overdrive =
     record { end = end; shown = shown; decided = decided; overdrive = overdrive }
 
--- A device that is known to be at overdrive after the event of a byte is known to be so before it, if the event is at
--- overdrive.
+-- A device that is known to be at overdrive after the event of a byte is known to be so before it, if one at regular
+-- speed passes over the event.
 unfoldable pub overdriveBefore : ℕ → Bool → Bool
-overdriveBefore byte overdrive = isOverdrive (eventOf byte) && overdrive
+overdriveBefore byte overdrive = passedAt byte false && overdrive
 
 -- A regular reset begins a part, and so does an overdrive reset after which the device is known to be at overdrive.
 unfoldable pub beginsPart : ℕ → Bool → Bool

@@ -466,20 +466,12 @@ fn part_in(
 // ---- the walk back from a copy
 
 // With `overdrive` the device is known to be at overdrive after the event of this byte; this tells whether it is known
-// to have been so before. An event at overdrive leaves a device at regular speed as it is, so that one that is at
-// overdrive after it was so before. Of any other event nothing is taken as known.
+// to have been so before. An event that a device at regular speed passes over leaves it at regular speed, so that one
+// that is at overdrive after it was so before. Of any other event nothing is taken as known.
 fn is_overdrive_before(byte: u8, overdrive: bool) -> bool
     ensures { λ r. ⌜ r ≡ overdriveBefore byte overdrive ⌝ }
 {
-    match byte {
-        0 => false,
-        1 => false,
-        2 => false,
-        4 => overdrive,
-        5 => overdrive,
-        6 => overdrive,
-        _ => false,
-    }
+    is_passed_at(byte, false) & overdrive
 }
 
 // All devices hear a regular reset, and it leaves them at regular speed, whatever came before. An overdrive reset is

@@ -1,38 +1,14 @@
 use Rattle.judge.specs.Loops.{overdriveBefore}
-use Rattle.judge.specs.Rules.{isOverdrive}
-use Rattle.bus.specs.Bus.{eventOf}
-use borrow.Author.Tests.{ne-eqb}
+use borrow.Author.Needs.{needs}
 use Rattle.judge.proofs.is_overdrive_before.Statement.{statement}
 use Rattle.judge.proofs.is_overdrive_before.Tie as tie
 
+is-passed-at-requires : tie.Need-is-passed-at-requires
+is-passed-at-requires c κs = search needs
+
 returns : tie.Need-returns
-unfolding overdriveBefore eventOf isOverdrive
-returns c = simp (c .match .keys1)
-
-returns-2 : tie.Need-returns-2
-unfolding overdriveBefore eventOf isOverdrive
-returns-2 c = simp (c .match .keys2)
-
-returns-3 : tie.Need-returns-3
-unfolding overdriveBefore eventOf isOverdrive
-returns-3 c = simp (c .match .keys3)
-
-returns-4 : tie.Need-returns-4
-unfolding overdriveBefore eventOf isOverdrive
-returns-4 c = simp (c .match .keys4)
-
-returns-5 : tie.Need-returns-5
-unfolding overdriveBefore eventOf isOverdrive
-returns-5 c = simp (c .match .keys5)
-
-returns-6 : tie.Need-returns-6
-unfolding overdriveBefore eventOf isOverdrive
-returns-6 c = simp (c .match .keys6)
-
-returns-7 : tie.Need-returns-7
-unfolding overdriveBefore eventOf isOverdrive
-returns-7 c = simp (ne-eqb _ _ (c .match .rest .1), ne-eqb _ _ (c .match .rest .0 .1), ne-eqb _ _ (c .match .rest .0 .0 .1), ne-eqb _ _ (c .match .rest .0 .0 .0 .1), ne-eqb _ _ (c .match .rest .0 .0 .0 .0 .1), ne-eqb _ _ (c .match .rest .0 .0 .0 .0 .0 .1))
+unfolding overdriveBefore
+returns c = simp (c .is-passed-at .ensures)
 
 pub is-overdrive-before-spec : {M : Type 1} → statement M
-is-overdrive-before-spec =
-    tie.close (tie.spec returns returns-2 returns-3 returns-4 returns-5 returns-6 returns-7)
+is-overdrive-before-spec = tie.close (tie.spec is-passed-at-requires returns)
