@@ -303,9 +303,9 @@ module _ (trace answers : List ℕ) (ds : List Device) (ranged : AllIn ds) (firs
         ∙ up-append trace answers m 0 j 1
         ∙ ap (upFrom trace answers m 0) one
 
-    pub careful-at : carefulAt trace answers (deviceAt (es k) i .kind) (deviceAt (es k) i .body) k
+    pub careful-at : carefulAt trace answers (deviceAt (es k) i .kind) (deviceAt (es k) i .body) (deviceAt (es k) i .state .overdrive) k
         ≡ shownSinceWrite (wantedBits (deviceAt (es k) i .body)) (momentsOf (take k trace) ds i)
     careful-at =
-        ap (λ (x : Kind). carefulAt trace answers x (deviceAt (es k) i .body) k) (kind-at k)
+        ap (λ (x : Kind). carefulAt trace answers x (deviceAt (es k) i .body) (deviceAt (es k) i .state .overdrive) k) (kind-at k)
         ∙ careful-is trace answers m k size flat way
         ∙ ap (shownSinceWrite (wantedBits (deviceAt (es k) i .body))) (sym (moments-are k (omega arith)))

@@ -263,10 +263,10 @@ doing-few Other last value careless seen i h = omega (arith, h)
 -- what is seen of a device, by what is known of it
 pub seen-so : (trace answers image : List ℕ) (k i : ℕ) (state : LineState) (seen : Seen) (doing : Doing) (last : Bool) (value : ℕ) → doingOf (state .transfer .stage) ≡ doing
     → (slotAt (getD trace k 0) (state .overdrive) && not (goesOn (state .transfer))) ≡ last → received (state .transfer) (levelAt answers k) ≡ value
-    → seenWith trace answers image k i state seen ≡ seenBy doing last value (λ at same. carelessAt trace answers image (placeIn image i) k at same value) seen
+    → seenWith trace answers image k i state seen ≡ seenBy doing last value (λ at same. carelessAt trace answers image (placeIn image i) (state .overdrive) k at same value) seen
 unfolding seenWith
 seen-so trace answers image k i state seen doing last value d l v =
-    (λ j. seenBy (d j) (l j) (v j) (λ at same. carelessAt trace answers image (placeIn image i) k at same (v j)) seen)
+    (λ j. seenBy (d j) (l j) (v j) (λ at same. carelessAt trace answers image (placeIn image i) (state .overdrive) k at same (v j)) seen)
 
 -- of i devices no more than i are at the memory command
 pub seen-few : (trace answers image : List ℕ) (lines : List LineState) (k i : ℕ) → seenUpTo trace answers image lines k i .commands ≤ i

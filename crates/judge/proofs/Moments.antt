@@ -17,24 +17,28 @@ use Rattle.kind.specs.Kind.{ta1, scratchpad}
 use Rattle.sram.specs.Sram.{targetOffset}
 use Rattle.line.specs.Transfers.{waiting, goesOn, received}
 use Rattle.device.specs.declared.LineState.{LineState}
-use Rattle.device.specs.Device.{lineState, resetState, stateAfterSlotAsIs, stageRange}
+use Rattle.device.specs.Device.{lineState, resetAt, stateAfterSlotAsIs, stageRange}
 use Rattle.bus.specs.declared.Event.{Event}
-use Rattle.bus.specs.declared.Event.the-variants.{Reset}
-use Rattle.bus.specs.Bus.{deviceWith, eventOf, takenState, hears}
+use Rattle.bus.specs.declared.Event.the-variants.{Reset, OverdriveReset}
+use Rattle.bus.specs.Bus.{deviceWith, eventOf, takenState, hears, unheardState}
 use Rattle.bus.specs.Loops.{heardStateAsIs, nextStateAsIs}
 use Rattle.judge.specs.declared.Mark.{Mark}
 use Rattle.judge.specs.declared.Mark.the-variants.{Unmarked, Wrote, Reads}
 use Rattle.judge.specs.declared.Part.{Part}
 use Rattle.judge.specs.declared.Back.{Back}
 use Rattle.judge.specs.Rules.{Moment, isSlot, isOverdrive, heardSlot, passedOver, isLast, isMemoryCommand, isWriteAddress, completes, writes, bitsFrom, wantedBits, showsBits, someReadShows, someWrite, shownSinceWrite}
-use Rattle.judge.specs.Loops.{levelAt, slotAt, passedAt, lineNext, wantedBytes, wantedBit, shownFrom, readShown, partSo, partBy, partAt, partOver, backTo, backBy, backAt, backFrom, carefulBy, carefulAt}
-use Rattle.judge.proofs.Way.{Off, off-next, off-speed, Alike, same, alike-speed, hears-speed, event-alike, slot-next, passed-next, wroteIn, readsIn, mark-is, alike-wrote, alike-reads, reads-off, reads-speed, reads-heard}
+use Rattle.judge.specs.Loops.{levelAt, slotAt, passedAt, lineNext, wantedBytes, wantedBit, shownFrom, readShown, partSo, partBy, partAt, partOver, backTo, overdriveBefore, beginsPart, backBy, backOver, partFrom, backAt, backFrom, carefulBy, carefulAt}
+use Rattle.judge.proofs.Way.{Off, off-next, off-speed, Alike, same, alike-speed, hears-speed, event-alike, slot-next, passed-next, wroteIn, readsIn, mark-is, alike-wrote, alike-reads, reads-off, reads-speed, both-true, reads-heard, fast-before}
 
 -- ---- what a device hears
 
 pub reset-event : (byte : ℕ) → eqb byte 2 ≡ true → eventOf byte ≡ Reset
 unfolding eventOf
 reset-event byte e = subst (λ (b : ℕ). eventOf b ≡ Reset) (sym (eqb-true byte 2 e)) refl
+
+overdrive-reset-event : (byte : ℕ) → eqb byte 6 ≡ true → eventOf byte ≡ OverdriveReset
+unfolding eventOf
+overdrive-reset-event byte e = subst (λ (b : ℕ). eventOf b ≡ OverdriveReset) (sym (eqb-true byte 6 e)) refl
 
 pub slot-heard : (x : Moment) (byte : ℕ) → x .event ≡ eventOf byte → takenState (x .device) ≡ x .device .state → heardSlot x ≡ slotAt byte (x .device .state .overdrive)
 unfolding heardSlot slotAt
@@ -146,31 +150,66 @@ module _ (trace answers : List ℕ) (m : ℕ → Moment) where
     reads-is j h =
         (λ i. heard-is j h i && (isMemoryCommand (state j .transfer .stage) && (not (goesOn (state j .transfer)) && eqb (received (state j .transfer) (way .level-is j h i)) 0xAA)))
 
-    -- a regular reset says nothing
-    reset-heard : (j : ℕ) → j < k → eqb (byte j) 2 ≡ true → heardSlot (m j) ≡ false
-    unfolding heardSlot isSlot
-    reset-heard j h s =
-        ap (λ (e : Event). isSlot e && hears e (takenState (m j .device))) (way .event-is j h ∙ reset-event (byte j) s)
+    -- where the device is known to be at overdrive before event j
+    abbrev Fast : ℕ → Bool → Type 0
+    Fast j overdrive = overdrive ≡ true → state j .overdrive ≡ true
 
-    reset-passed : (j : ℕ) → j < k → eqb (byte j) 2 ≡ true → passedOver (m j) ≡ false
-    unfolding passedOver isOverdrive
-    reset-passed j h s =
-        ap (λ (e : Event). isOverdrive e && not (hears e (takenState (m j .device)))) (way .event-is j h ∙ reset-event (byte j) s)
+    fast-back : (j : ℕ) (after : Bool) → j < k → Fast (suc j) after → Fast j (overdriveBefore (byte j) after)
+    unfolding overdriveBefore passedAt
+    fast-back j after h fast e =
+        let p = both-true (passedAt (byte j) false) after e in
+        fast-before (eventOf (byte j)) (lv j) (deviceWith K (m j .device .body) (state j)) (both-true (isOverdrive (eventOf (byte j))) _ (p .0) .0)
+        (sym (ap (λ (s : LineState). s .overdrive) (way .next-is j h)) ∙ fast (p .1))
 
-    writes-reset : (j : ℕ) → j < k → eqb (byte j) 2 ≡ true → writes (m j) ≡ false
+    -- a reset that the device hears begins a part, and says nothing
+    record Begins (j : ℕ) : Type 0 where
+      pub slot : heardSlot (m j) ≡ false
+      pub over : passedOver (m j) ≡ false
+      pub next : state (suc j) ≡ resetAt (eqb (byte j) 6)
+
+    regular-begins : (j : ℕ) → j < k → eqb (byte j) 2 ≡ true → Begins j
+    unfolding heardSlot isSlot passedOver isOverdrive nextStateAsIs hears heardStateAsIs
+    regular-begins j h s =
+        let reset : eventOf (byte j) ≡ Reset = reset-event (byte j) s in record {
+          slot = ap (λ (e : Event). isSlot e && hears e (takenState (m j .device))) (way .event-is j h ∙ reset);
+          over = ap (λ (e : Event). isOverdrive e && not (hears e (takenState (m j .device)))) (way .event-is j h ∙ reset);
+          next = way .next-is j h
+              ∙ ap (λ (e : Event). nextStateAsIs e (lv j) (deviceWith K (m j .device .body) (state j))) reset
+              ∙ ap (λ (b : ℕ). resetAt (eqb b 6)) (sym (eqb-true (byte j) 2 s));
+        }
+
+    overdrive-begins : (j : ℕ) → j < k → eqb (byte j) 6 ≡ true → state j .overdrive ≡ true → Begins j
+    unfolding heardSlot isSlot passedOver isOverdrive nextStateAsIs hears heardStateAsIs unheardState
+    overdrive-begins j h s fast =
+        let reset : eventOf (byte j) ≡ OverdriveReset = overdrive-reset-event (byte j) s in record {
+          slot = ap (λ (e : Event). isSlot e && hears e (takenState (m j .device))) (way .event-is j h ∙ reset);
+          over = ap (λ (e : Event). isOverdrive e && not (hears e (takenState (m j .device)))) (way .event-is j h ∙ reset)
+              ∙ ap (λ (x : LineState). not (x .overdrive)) (way .taken j h) ∙ ap not fast;
+          next = way .next-is j h
+              ∙ ap (λ (e : Event). nextStateAsIs e (lv j) (deviceWith K (m j .device .body) (state j))) reset
+              ∙ ap (λ (x : Bool). cond x (resetAt true) (state j)) fast ∙ ap resetAt (sym s);
+        }
+
+    begins : (j : ℕ) (after : Bool) → j < k → Fast (suc j) after → beginsPart (byte j) after ≡ true → Begins j
+    unfolding beginsPart overdriveBefore passedAt isOverdrive hears
+    begins j after h fast e = split (eqb (byte j) 2) refl e
+      where
+        split : (x : Bool) → eqb (byte j) 2 ≡ x → (x || eqb (byte j) 6 && after) ≡ true → Begins j
+        split true s e = regular-begins j h s
+        split false s e =
+            let p = both-true (eqb (byte j) 6) after e in
+            let event = overdrive-reset-event (byte j) (p .0) in
+            let known : overdriveBefore (byte j) after ≡ true = (λ i. (isOverdrive (event i) && not (hears (event i) (lineState waiting false))) && p .1 i) in
+            overdrive-begins j h (p .0) (fast-back j after h fast known)
+
+    writes-reset : (j : ℕ) → heardSlot (m j) ≡ false → writes (m j) ≡ false
     unfolding writes
-    writes-reset j h s = ap (λ (x : Bool). x && (isWriteAddress (state j .transfer .stage) && isLast (m j .device))) (reset-heard j h s)
+    writes-reset j s = ap (λ (x : Bool). x && (isWriteAddress (state j .transfer .stage) && isLast (m j .device))) s
 
-    reads-reset : (j : ℕ) → j < k → eqb (byte j) 2 ≡ true → completes 0xAA (m j) ≡ false
+    reads-reset : (j : ℕ) → heardSlot (m j) ≡ false → completes 0xAA (m j) ≡ false
     unfolding completes
-    reads-reset j h s =
-        ap (λ (x : Bool). x && (isMemoryCommand (state j .transfer .stage) && (isLast (m j .device) && eqb (received (state j .transfer) (m j .level)) 0xAA)))
-        (reset-heard j h s)
-
-    reset-next : (j : ℕ) → j < k → eqb (byte j) 2 ≡ true → state (suc j) ≡ resetState
-    unfolding nextStateAsIs hears heardStateAsIs
-    reset-next j h s =
-        way .next-is j h ∙ ap (λ (e : Event). nextStateAsIs e (lv j) (deviceWith K (m j .device .body) (state j))) (reset-event (byte j) s)
+    reads-reset j s =
+        ap (λ (x : Bool). x && (isMemoryCommand (state j .transfer .stage) && (isLast (m j .device) && eqb (received (state j .transfer) (m j .level)) 0xAA))) s
 
     -- after a slot that the device hears, and after an event that it passes over
     heard-next : (j : ℕ) → j < k → slotAt (byte j) (state j .overdrive) ≡ true → state (suc j) ≡ stateAfterSlotAsIs (state j) K (m j .device .body) (lv j)
@@ -185,7 +224,7 @@ module _ (trace answers : List ℕ) (m : ℕ → Moment) where
     abbrev Slots : ℕ → ℕ → Type 0
     Slots j e = (i : ℕ) → j ≤ i → i < e → eqb (byte i) 2 ≡ false
 
-    -- what follows a part of the trace: nothing, or a regular reset
+    -- what follows a part of the trace: nothing, or a reset that the device hears
     abbrev Ends : List Moment → Type 0
     Ends [] = Unit {0}
     Ends (x ∷ xs) = (heardSlot x ≡ false) × (passedOver x ≡ false)
@@ -394,10 +433,10 @@ module _ (trace answers : List ℕ) (m : ℕ → Moment) where
     abbrev result : ℕ → Back → Bool
     result j back = carefulBy (backFrom trace answers K body j back)
 
-    decided-stays : (j e : ℕ) (shown : Bool) → result j (backTo e shown true) ≡ shown
+    decided-stays : (j e : ℕ) (shown before : Bool) → result j (backTo e shown true before) ≡ shown
     unfolding backFrom carefulBy
-    decided-stays zero e shown = refl
-    decided-stays (suc j) e shown = refl
+    decided-stays zero e shown before = refl
+    decided-stays (suc j) e shown before = refl
 
     or-swap : (a b : Bool) → (a || b) ≡ (b || a)
     or-swap true true = refl
@@ -408,67 +447,82 @@ module _ (trace answers : List ℕ) (m : ℕ → Moment) where
     reset-ends : (j : ℕ) (ms : List Moment) → ms ≡ m j ∷ since (suc j) → (heardSlot (m j) ≡ false) × (passedOver (m j) ≡ false) → Ends ms
     reset-ends j ms e f = subst Ends (sym e) f
 
-    at-before : (j : ℕ) (shown : Bool) → j < k → eqb (byte j) 2 ≡ true → someWrite (since (suc j)) ≡ false → shown ≡ someReadShows wb (since (suc j)) → At j shown
+    at-before : (j : ℕ) (shown : Bool) → j < k → Begins j → someWrite (since (suc j)) ≡ false → shown ≡ someReadShows wb (since (suc j)) → At j shown
     unfolding someWrite someReadShows
     at-before j shown small here q s = record {
       below = omega (arith, small);
-      ends = reset-ends j (since j) (since-here j small) (reset-heard j small here, reset-passed j small here);
-      quiet = ap someWrite (since-here j small) ∙ (λ i. writes-reset j small here i || q i);
+      ends = reset-ends j (since j) (since-here j small) (here .slot, here .over);
+      quiet = ap someWrite (since-here j small) ∙ (λ i. writes-reset j (here .slot) i || q i);
       shows = ap (someReadShows wb) (since-here j small)
-          ∙ (λ i. reads-reset j small here i && showsBits wb (since (suc j)) || someReadShows wb (since (suc j))) ∙ sym s;
+          ∙ (λ i. reads-reset j (here .slot) i && showsBits wb (since (suc j)) || someReadShows wb (since (suc j))) ∙ sym s;
     }
 
-    -- a regular reset with a part after it
-    at-reset : (j e : ℕ) (shown : Bool) → j < e → eqb (byte j) 2 ≡ true → At e shown → (after : Part) → Says after shown (partSo false false) (since (suc j))
-        → ((s : Bool) → At j s → result j (backTo j s false) ≡ answer)
-        → result j (backBy j (backTo e shown false) after) ≡ answer
+    -- a reset with a part after it
+    at-reset : (j e : ℕ) (shown after before : Bool) → j < e → Begins j → At e shown → (part : Part) → Says part shown (partSo false false) (since (suc j))
+        → ((s : Bool) → At j s → result j (backTo j s false before) ≡ answer)
+        → result j (backBy j (backTo e shown false after) before part) ≡ answer
     unfolding backBy someWrite someReadShows
-    at-reset j e shown h here at after s ih = split (someWrite (since (suc j))) refl
+    at-reset j e shown after before h here at part s ih = split (someWrite (since (suc j))) refl
       where
         small : j < k
         small = omega (arith, h, at .below)
 
-        turned : (shown || after .shown) ≡ sinceWrite false (since (suc j))
-        turned = or-swap shown (after .shown) ∙ s .1
+        turned : (shown || part .shown) ≡ sinceWrite false (since (suc j))
+        turned = or-swap shown (part .shown) ∙ s .1
 
-        split : (w : Bool) → someWrite (since (suc j)) ≡ w → result j (backTo j (shown || after .shown) (after .wrote)) ≡ answer
+        split : (w : Bool) → someWrite (since (suc j)) ≡ w → result j (backTo j (shown || part .shown) (part .wrote) before) ≡ answer
         split true q =
-            ap (λ (b : Bool). result j (backTo j (shown || after .shown) b)) (s .0 ∙ q)
-            ∙ decided-stays j j (shown || after .shown)
+            ap (λ (b : Bool). result j (backTo j (shown || part .shown) b before)) (s .0 ∙ q)
+            ∙ decided-stays j j (shown || part .shown) before
             ∙ turned
             ∙ ap (λ (b : Bool). cond b (shownSinceWrite wb (since (suc j))) (someReadShows wb (since (suc j)))) q
             ∙ sym (ap (shownSinceWrite wb) (whole j small) ∙ write-skip wb (upFrom 0 (suc j)) (since (suc j)) q)
         split false q =
-            ap (λ (b : Bool). result j (backTo j (shown || after .shown) b)) (s .0 ∙ q)
-            ∙ ih (shown || after .shown) (at-before j (shown || after .shown) small here q
+            ap (λ (b : Bool). result j (backTo j (shown || part .shown) b before)) (s .0 ∙ q)
+            ∙ ih (shown || part .shown) (at-before j (shown || part .shown) small here q
             (turned ∙ ap (λ (b : Bool). cond b (shownSinceWrite wb (since (suc j))) (someReadShows wb (since (suc j)))) q))
 
-    back-turn : (j e : ℕ) (shown : Bool) → j < e → Slots (suc j) e → At e shown → (x : Bool) → eqb (byte j) 2 ≡ x
-        → ((e′ : ℕ) (s : Bool) → j ≤ e′ → Slots j e′ → At e′ s → result j (backTo e′ s false) ≡ answer)
-        → result j (cond x (backBy j (backTo e shown false) (partOver trace answers K body e resetState (partSo false false) (suc j) (e - suc j))) (backTo e shown false)) ≡ answer
-    back-turn j e shown h slots at true x ih =
+    not-regular : (b : ℕ) (after : Bool) → beginsPart b after ≡ false → eqb b 2 ≡ false
+    unfolding beginsPart
+    not-regular b after e = split (eqb b 2) e
+      where
+        split : (x : Bool) → (x || eqb b 6 && after) ≡ false → x ≡ false
+        split true e = absurd (true≢false e)
+        split false e = refl
+
+    back-turn : (j e : ℕ) (shown after before : Bool) → j < e → Slots (suc j) e → At e shown → Fast (suc j) after → (x : Bool) → beginsPart (byte j) after ≡ x
+        → ((e′ : ℕ) (s : Bool) → j ≤ e′ → Slots j e′ → At e′ s → result j (backTo e′ s false before) ≡ answer)
+        → result j (cond x (backBy j (backTo e shown false after) before (partFrom trace answers K body e j)) (backOver (backTo e shown false after) before)) ≡ answer
+    unfolding partFrom backOver
+    back-turn j e shown after before h slots at fast true x ih =
         let small : j < k = omega (arith, h, at .below) in
         let n : suc j + (e - suc j) ≡ e = omega (arith, h) in
-        let after = partOver trace answers K body e resetState (partSo false false) (suc j) (e - suc j) in
-        let s = says (since e) (at .ends) (at .quiet) (e - suc j) (suc j) e resetState (partSo false false) n (at .below) (same (sym (reset-next j small x))) in
-        at-reset j e shown h x at after
-        (subst (λ (r : Bool). Says after r (partSo false false) (since (suc j))) (at .shows)
-        (subst (λ (ms : List Moment). Says after (someReadShows wb (since e)) (partSo false false) ms) (sym (since-split j e h (at .below))) s))
+        let here = begins j after small fast x in
+        let start = resetAt (eqb (byte j) 6) in
+        let part = partOver trace answers K body e start (partSo false false) (suc j) (e - suc j) in
+        let s = says (since e) (at .ends) (at .quiet) (e - suc j) (suc j) e start (partSo false false) n (at .below) (same (sym (here .next))) in
+        at-reset j e shown after before h here at part
+        (subst (λ (r : Bool). Says part r (partSo false false) (since (suc j))) (at .shows)
+        (subst (λ (ms : List Moment). Says part (someReadShows wb (since e)) (partSo false false) ms) (sym (since-split j e h (at .below))) s))
         (λ s′ at′. ih j s′ (omega arith) (λ i a b. absurd (omega (arith, a, b))) at′)
-    back-turn j e shown h slots at false x ih =
+    back-turn j e shown after before h slots at fast false x ih =
         ih e shown (omega (arith, h)) (λ i a b. from-here i a b (eqb i j) refl) at
       where
         from-here : (i : ℕ) → j ≤ i → i < e → (y : Bool) → eqb i j ≡ y → eqb (getD trace i 0) 2 ≡ false
-        from-here i a b true y = subst (λ (z : ℕ). eqb (getD trace z 0) 2 ≡ false) (sym (eqb-true i j y)) x
+        from-here i a b true y = subst (λ (z : ℕ). eqb (getD trace z 0) 2 ≡ false) (sym (eqb-true i j y)) (not-regular (byte j) after x)
         from-here i a b false y = slots i (omega (arith, a, eqb-false i j y)) b
 
-    back-is : (j e : ℕ) (shown : Bool) → j ≤ e → Slots j e → At e shown → result j (backTo e shown false) ≡ answer
+    back-is : (j e : ℕ) (shown after : Bool) → j ≤ e → Slots j e → At e shown → Fast j after → result j (backTo e shown false after) ≡ answer
     unfolding backFrom backAt carefulBy
-    back-is zero zero shown h slots at =
+    back-is zero zero shown after h slots at fast =
         let n : k - 0 ≡ k = omega arith in
         sym (no-write-none wb (upFrom 0 k) (ap (λ (x : ℕ). someWrite (upFrom 0 x)) (sym n) ∙ at .quiet))
-    back-is zero (suc e) shown h slots at = absurd (true≢false (sym (way .first-is (omega (arith, at .below))) ∙ slots 0 (omega arith) (omega arith)))
-    back-is (suc j) e shown h slots at = back-turn j e shown h slots at (eqb (getD trace j 0) 2) refl (back-is j)
+    back-is zero (suc e) shown after h slots at fast = absurd (true≢false (sym (way .first-is (omega (arith, at .below))) ∙ slots 0 (omega arith) (omega arith)))
+    back-is (suc j) e shown after h slots at fast =
+        let small : j < k = omega (arith, h, at .below) in
+        let before = overdriveBefore (getD trace j 0) after in
+        back-turn j e shown after before h slots at fast (beginsPart (getD trace j 0) after) refl
+        (λ e′ s h′ slots′ at′. back-is j e′ s before h′ slots′ at′ (fast-back j after small fast))
 
     nothing-since : (since k ≡ [])
     unfolding upFrom
@@ -485,6 +539,6 @@ module _ (trace answers : List ℕ) (m : ℕ → Moment) where
       shows = ap (someReadShows wb) nothing-since;
     }
 
-    pub careful-is : carefulAt trace answers K body k ≡ shownSinceWrite (wantedBits body) (upFrom 0 k)
+    pub careful-is : carefulAt trace answers K body (state k .overdrive) k ≡ shownSinceWrite (wantedBits body) (upFrom 0 k)
     unfolding carefulAt
-    careful-is = back-is k k false (omega arith) (λ i a b. absurd (omega (arith, a, b))) at-copy
+    careful-is = back-is k k false (state k .overdrive) (omega arith) (λ i a b. absurd (omega (arith, a, b))) at-copy (λ e. e)

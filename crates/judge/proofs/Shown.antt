@@ -207,7 +207,7 @@ module _ (image trace answers rest : List ℕ) (tail : List LineState) (known : 
     body-found i h = ap (λ (d : Device). d .body) (found i h)
 
     careful-so : (i : ℕ) → i < n → isSram (deviceAt (es k) i .kind) ≡ true
-        → carefulAt trace answers (deviceAt (es k) i .kind) (deviceAt (es k) i .body) k ≡ shownSinceWrite (wantedBits (M i .device .body)) (momentsOf (take k trace) ds i)
+        → carefulAt trace answers (deviceAt (es k) i .kind) (deviceAt (es k) i .body) (deviceAt (es k) i .state .overdrive) k ≡ shownSinceWrite (wantedBits (M i .device .body)) (momentsOf (take k trace) ds i)
     careful-so i h e =
         let s = sram-kind (deviceAt (es k) i .kind) e in
         careful-at trace answers ds ranged first i (omega (arith, h, all)) k within agree (s .0) (s .1) (s .2)
@@ -227,13 +227,13 @@ module _ (image trace answers rest : List ℕ) (tail : List LineState) (known : 
         let ok = range-at trace answers ds ranged first i (omega (arith, h, all)) k within agree k in
         let same-level : l ≡ L k = sym (agree k (omega arith)) in
         ap (λ (s : LineState). seenBy (doingOf (s .transfer .stage)) (slotAt byte (s .overdrive) && not (goesOn (s .transfer))) (received (s .transfer) l)
-        (λ at same. carelessAt trace answers (Q k) (placeIn (Q k) i) k at same (received (s .transfer) l)) seen) (line-at (es k) tail i few)
-        ∙ seen-stage (t .stage) last v (λ at same. carelessAt trace answers (Q k) (placeIn (Q k) i) k at same v) seen
+        (λ at same. carelessAt trace answers (Q k) (placeIn (Q k) i) (s .overdrive) k at same (received (s .transfer) l)) seen) (line-at (es k) tail i few)
+        ∙ seen-stage (t .stage) last v (λ at same. carelessAt trace answers (Q k) (placeIn (Q k) i) (d .state .overdrive) k at same v) seen
         ∙ (λ z. plus seen (isMemoryCommand (t .stage)) (isMemoryCommand (t .stage) && (last && (eqb v 0x0F || eqb v 0x55)))
-        (carelessBy (doingOf (t .stage)) last (λ at same. patternAccepted at same v (body-found i h z) && not (carefulAt trace answers (kind-found i h z) (body-found i h z) k))))
+        (carelessBy (doingOf (t .stage)) last (λ at same. patternAccepted at same v (body-found i h z) && not (carefulAt trace answers (kind-found i h z) (body-found i h z) (d .state .overdrive) k))))
         ∙ ap (plus seen (isMemoryCommand (t .stage)) (isMemoryCommand (t .stage) && (last && (eqb v 0x0F || eqb v 0x55))))
         (careless-stage (t .stage) (d .kind) (d .state .overdrive) (t .register) (t .left) (range-stage d ok) last v (d .body)
-        (carefulAt trace answers (d .kind) (d .body) k) (shownSinceWrite (wantedBits (d .body)) (momentsOf (take k trace) ds i)) (careful-so i h))
+        (carefulAt trace answers (d .kind) (d .body) (d .state .overdrive) k) (shownSinceWrite (wantedBits (d .body)) (momentsOf (take k trace) ds i)) (careful-so i h))
         ∙ ap (λ (x : Bool). plus seen (isMemoryCommand (t .stage)) (isMemoryCommand (t .stage) && (last && (eqb (received t x) 0x0F || eqb (received t x) 0x55)))
         ((last && isMade (stageCopy (t .stage) (d .kind) (received t x) (d .body))) && not (shownSinceWrite (wantedBits (d .body)) (momentsOf (take k trace) ds i)))) same-level
         ∙ (λ z. plus seen (isMemoryCommand (t .stage)) (sym (completes-is (M i) byte refl ok) z)

@@ -1,9 +1,10 @@
--- The way of one device over the line: a line state that is followed from a regular reset by the levels alone, with a
--- body of a later time, marks what the device's own does. Assumes nothing.
+-- The way of one device over the line: a line state that is followed from a reset by the levels alone, with a body of a
+-- later time, marks what the device's own does. Assumes nothing.
 --     Off              a stage from which no slot leads to a command or to a write's address
 --     Alike            two line states that are equal, or both off and at the same speed
 --     event-alike      an event leaves them alike
 --     alike-wrote, -reads    both have the same mark
+--     fast-before      a device that is at overdrive after an event at overdrive was so before it
 use Prim.Native.Nat.{ℕ, _+_, _<_, _≤_, _%_}
 use mathlib.Core.Path.{_≡_, refl, sym, ap, subst, _∙_}
 use mathlib.Core.Bool.{Bool, true, false, not, cond, _&&_, _||_, true≢false, Bool·beq}
@@ -416,6 +417,19 @@ passed-next (OverdriveSlot sent) level d e =
     ap (λ (x : Bool). cond x (stateAfterSlotAsIs (d .state) (d .kind) (d .body) level) (d .state)) (no-true (d .state .overdrive) e)
 passed-next OverdriveReset level d e = ap (λ (x : Bool). cond x (resetAt true) (d .state)) (no-true (d .state .overdrive) e)
 
+fast-heard : (heard state : LineState) (x : Bool) → state .overdrive ≡ x → cond x heard state .overdrive ≡ true → x ≡ true
+fast-heard heard state true p f = refl
+fast-heard heard state false p f = sym p ∙ f
+
+-- a device at regular speed is left there by what comes at overdrive
+pub fast-before : (event : Event) (level : Bool) (d : Device) → isOverdrive event ≡ true → nextStateAsIs event level d .overdrive ≡ true → d .state .overdrive ≡ true
+unfolding isOverdrive hears nextStateAsIs heardStateAsIs unheardState
+fast-before (Slot sent) level d e f = absurd (true≢false (sym e))
+fast-before Reset level d e f = absurd (true≢false (sym e))
+fast-before Pulse level d e f = absurd (true≢false (sym e))
+fast-before (OverdriveSlot sent) level d e f = fast-heard (stateAfterSlotAsIs (d .state) (d .kind) (d .body) level) (d .state) (d .state .overdrive) refl f
+fast-before OverdriveReset level d e f = fast-heard (resetAt true) (d .state) (d .state .overdrive) refl f
+
 -- ---- marks
 
 -- what a line state marks in an event at a level
@@ -514,7 +528,7 @@ alike-reads byte f t level (off p q v) = off-reads byte f level p ∙ sym (off-r
 
 -- ---- after a read's command a line state is off, at its speed
 
-both-true : (x y : Bool) → (x && y) ≡ true → (x ≡ true) × (y ≡ true)
+pub both-true : (x y : Bool) → (x && y) ≡ true → (x ≡ true) × (y ≡ true)
 both-true true y e = (refl, e)
 both-true false y e = absurd (true≢false (sym e))
 

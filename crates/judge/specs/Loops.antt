@@ -18,7 +18,7 @@ use Rattle.line.specs.declared.Stage.the-variants.{Rom, Memory}
 use Rattle.line.specs.Transfers.{waiting, goesOn, received}
 use Rattle.sram.specs.Sram.{targetOffset, endingOffset, patternSame}
 use Rattle.device.specs.declared.LineState.{LineState}
-use Rattle.device.specs.Device.{lineState, waitingState, resetState, stateAfterSlotAsIs}
+use Rattle.device.specs.Device.{lineState, waitingState, resetAt, stateAfterSlotAsIs}
 use Rattle.recording.specs.Recorded.{agreesAt}
 use Rattle.bus.specs.declared.Place.{Place}
 use Rattle.bus.specs.Bus.{deviceWith, eventOf, hears}
@@ -64,7 +64,7 @@ unfoldable pub doingOf : Stage → Doing
 doingOf (Rom r) = Other
 doingOf (Memory m) = memoryDoing m
 
--- ---- one device from a regular reset to the next
+-- ---- one device at one event of a recording, by value
 
 -- Event k of a trace at its recorded level leaves a device in this line state.
 unfoldable pub lineNext : List ℕ → List ℕ → Kind → List ℕ → ℕ → LineState → LineState
@@ -158,19 +158,37 @@ partOver trace answers kind body end state part k (suc left) =
 
 -- ---- the walk back from a copy
 
-abbrev pub backTo : ℕ → Bool → Bool → Back
-backTo end shown decided = record { end = end; shown = shown; decided = decided }
+abbrev pub backTo : ℕ → Bool → Bool → Bool → Back
+backTo end shown decided overdrive =
+    record { end = end; shown = shown; decided = decided; overdrive = overdrive }
 
-unfoldable pub backBy : ℕ → Back → Part → Back
-backBy j back part = backTo j (back .shown || part .shown) (part .wrote)
+-- A device that is known to be at overdrive after the event of a byte is known to be so before it, if one at regular
+-- speed passes over the event.
+unfoldable pub overdriveBefore : ℕ → Bool → Bool
+overdriveBefore byte overdrive = passedAt byte false && overdrive
 
--- Event j is looked at: a regular reset begins a part, which ends before event `end`.
+-- A regular reset begins a part, and so does an overdrive reset after which the device is known to be at overdrive.
+unfoldable pub beginsPart : ℕ → Bool → Bool
+beginsPart byte overdrive = eqb byte 2 || eqb byte 6 && overdrive
+
+unfoldable pub backBy : ℕ → Back → Bool → Part → Back
+backBy j back overdrive part = backTo j (back .shown || part .shown) (part .wrote) overdrive
+
+unfoldable pub backOver : Back → Bool → Back
+backOver back overdrive = backTo (back .end) (back .shown) (back .decided) overdrive
+
+-- A part begins at the speed of its reset, and ends before event `end`.
+unfoldable pub partFrom : List ℕ → List ℕ → Kind → List ℕ → ℕ → ℕ → Part
+partFrom trace answers kind body end j =
+    partOver trace answers kind body end (resetAt (eqb (getD trace j 0) 6)) (partSo false false) (suc j) (end - suc j)
+
+-- Event j is looked at.
 unfoldable pub backAt : List ℕ → List ℕ → Kind → List ℕ → ℕ → Back → Back
 backAt trace answers kind body j back =
-    cond (eqb (getD trace j 0) 2)
-    (backBy j back
-    (partOver trace answers kind body (back .end) resetState (partSo false false) (suc j) (back .end - suc j)))
-    back
+    let before = overdriveBefore (getD trace j 0) (back .overdrive) in
+    cond (beginsPart (getD trace j 0) (back .overdrive))
+    (backBy j back before (partFrom trace answers kind body (back .end) j))
+    (backOver back before)
 
 unfoldable pub looksBack : ℕ → Back → Bool
 looksBack j back = ltb 0 j && not (back .decided)
@@ -183,8 +201,10 @@ backFrom trace answers kind body (suc j) back =
 unfoldable pub carefulBy : Back → Bool
 carefulBy back = back .decided && back .shown
 
-unfoldable pub carefulAt : List ℕ → List ℕ → Kind → List ℕ → ℕ → Bool
-carefulAt trace answers kind body k = carefulBy (backFrom trace answers kind body k (backTo k false false))
+-- The device, which accepts a copy in event k, is at overdrive there or not.
+unfoldable pub carefulAt : List ℕ → List ℕ → Kind → List ℕ → Bool → ℕ → Bool
+carefulAt trace answers kind body overdrive k =
+    carefulBy (backFrom trace answers kind body k (backTo k false false overdrive))
 
 -- ---- one event on all devices
 
@@ -202,10 +222,10 @@ patternAccepted at same value body = not (ltb at 2) && patternSame at same value
 abbrev pub bodyIn : List ℕ → Place → List ℕ
 bodyIn image place = take (place .end - place .start) (drop (place .start) image)
 
-unfoldable pub carelessAt : List ℕ → List ℕ → List ℕ → Place → ℕ → ℕ → Bool → ℕ → Bool
-carelessAt trace answers image place k at same value =
+unfoldable pub carelessAt : List ℕ → List ℕ → List ℕ → Place → Bool → ℕ → ℕ → Bool → ℕ → Bool
+carelessAt trace answers image place overdrive k at same value =
     patternAccepted at same value (bodyIn image place)
-    && not (carefulAt trace answers (place .kind) (bodyIn image place) k)
+    && not (carefulAt trace answers (place .kind) (bodyIn image place) overdrive k)
 
 unfoldable pub seenBy : Doing → Bool → ℕ → (ℕ → Bool → Bool) → Seen → Seen
 seenBy Command last value careless seen =
@@ -221,7 +241,7 @@ seenWith trace answers image k i state seen =
     let value = received (state .transfer) (levelAt answers k) in
     let last = slotAt (getD trace k 0) (state .overdrive) && not (goesOn (state .transfer)) in
     seenBy (doingOf (state .transfer .stage)) last value
-    (λ at same. carelessAt trace answers image (placeIn image i) k at same value) seen
+    (λ at same. carelessAt trace answers image (placeIn image i) (state .overdrive) k at same value) seen
 
 unfoldable pub seenUpTo : List ℕ → List ℕ → List ℕ → List LineState → ℕ → ℕ → Seen
 seenUpTo trace answers image lines k zero = nothingSeen

@@ -3,8 +3,8 @@
 //
 // One pass over the trace runs the bench in a lent work space and looks at every device in every event. Only where a
 // device accepts a copy are the events before it looked at again, back to that device's last write. One device's way
-// over the line depends on its code and on the levels alone, so that it is followed by value from a regular reset on,
-// which leaves every device at regular speed, with the recorded answers as levels; no second image is needed.
+// over the line depends on its code and on the levels alone, so that it is followed by value from a reset on that it
+// heard and that left it at a known speed, with the recorded answers as levels; no second image is needed.
 use device::LineState;
 use image::ACCEPTED;
 use kind::Kind;
@@ -17,7 +17,7 @@ ghost use mathlib.Core.Bool.{true, false, cond, _||_};
 ghost use lib.ListN.{length};
 ghost use lib.Dec.{eqb};
 ghost use Rattle.sram.specs.Sram.{targetOffset};
-ghost use Rattle.device.specs.Device.{resetAt, resetState};
+ghost use Rattle.device.specs.Device.{resetAt};
 ghost use Rattle.recording.specs.Recorded.{agreesAt};
 ghost use Rattle.bus.specs.Bus.{deviceWith, eventOf};
 ghost use Rattle.bus.specs.Loops.{placeIn, nextStateAsIs};
@@ -26,8 +26,8 @@ ghost use Rattle.judge.specs.declared.Verdict.the-variants.{Accepted, Re
 ghost use Rattle.judge.specs.Judge.{ruleNumber, refusalOf, ruleOf, brokenAt, JudgeLeaves, judgeOf};
 ghost use Rattle.judge.specs.Loops.{levelAt, sramDoing, memoryDoing, doingOf, slotAt, passedAt, afterSlotAt};
 ghost use Rattle.judge.specs.Loops.{lineNext, markBy, markOf, wantedBytes, wantedBit, readsOn, bitsIn, shownFrom};
-ghost use Rattle.judge.specs.Loops.{readShown, partSo, partBy, partAt, partOver, backBy, backAt, looksBack};
-ghost use Rattle.judge.specs.Loops.{carefulBy, carefulAt};
+ghost use Rattle.judge.specs.Loops.{readShown, partSo, partBy, partAt, partOver, overdriveBefore, beginsPart};
+ghost use Rattle.judge.specs.Loops.{backBy, backOver, backAt, looksBack, carefulBy, carefulAt};
 ghost use Rattle.judge.specs.Loops.{patternAccepted, carelessAt, seenWith, seenUpTo, nothingSeen};
 ghost use Rattle.judge.specs.Loops.{verdictHere, verdictKept, verdictNext, laidUpTo, judgeState};
 ghost use Rattle.judge.specs.Loops.{judgeEventsUpTo};
@@ -72,12 +72,15 @@ struct Part {
     shown: bool,
 }
 
-// The walk back from a copy has come to event `end`. It has `shown` if one of the reads from there on showed what it
-// had to, and it has decided once it has found the last write.
+// The walk back from a copy has gone through the parts of the trace from event `end` on. It has `shown` if one of the
+// reads in them showed what it had to, and it has decided once it has found the last write. With `overdrive` the device
+// is known to have been at overdrive before the event that was looked at last, or at the copy where none was yet;
+// without it nothing is told of its speed.
 struct Back {
     end: usize,
     shown: bool,
     decided: bool,
+    overdrive: bool,
 }
 
 // Of the devices that were looked at in an event, so many are at the memory command, one of them has completed a write
@@ -96,6 +99,8 @@ const COPY_SCRATCHPAD: u8 = 0x55;
 
 // This event is the regular reset.
 const RESET: u8 = 2;
+
+const OVERDRIVE_RESET: u8 = 6;
 
 // TA1, TA2 and E/S have so many bits.
 const REGISTER_BITS: usize = 24;
@@ -372,7 +377,7 @@ fn read_shown(
     bits_shown(trace, answers, body, overdrive, end, k, count)
 }
 
-// ---- the part of a trace from a regular reset to the next
+// ---- the part of a trace from a reset that the device heard to the next
 
 // A write leaves nothing of what was shown before it.
 fn part_by(
@@ -432,14 +437,22 @@ fn empty_part() -> Part
     }
 }
 
-// These are the writes and reads of a device from event `from`, the first after a regular reset, up to event `end`. The
-// device is followed by the recorded answers; its body may be that of a later time, as nothing that is marked depends
-// on more than the code.
-fn part_in(trace: &[u8], answers: &[u8], kind: Kind, body: &[u8], from: usize, end: usize) -> Part
-    ensures { λ r. ⌜ r ≡ partOver (now (trace .entry)) (now (answers .entry)) kind (now (body .entry)) end resetState
-        (partSo false false) from (end - from) ⌝ }
+// These are the writes and reads of a device from event `from` up to event `end`. The reset before them left the device
+// at overdrive or at regular speed. It is followed by the recorded answers; its body may be that of a later time, as
+// nothing that is marked depends on more than the code.
+fn part_in(
+    trace: &[u8],
+    answers: &[u8],
+    kind: Kind,
+    body: &[u8],
+    overdrive: bool,
+    from: usize,
+    end: usize,
+) -> Part
+    ensures { λ r. ⌜ r ≡ partOver (now (trace .entry)) (now (answers .entry)) kind (now (body .entry)) end
+        (resetAt overdrive) (partSo false false) from (end - from) ⌝ }
 {
-    let mut state = LineState::at_reset(false);
+    let mut state = LineState::at_reset(overdrive);
     let mut part = empty_part();
     let mut k = from;
     while k < end {
@@ -452,29 +465,62 @@ fn part_in(trace: &[u8], answers: &[u8], kind: Kind, body: &[u8], from: usize, e
 
 // ---- the walk back from a copy
 
-// The part that begins with the regular reset at event j, and ends where the walk has come to, has these writes and
-// reads.
-fn back_by(j: usize, back: Back, part: Part) -> Back
-    ensures { λ r. ⌜ r ≡ backBy j back part ⌝ }
+// With `overdrive` the device is known to be at overdrive after the event of this byte; this tells whether it is known
+// to have been so before. An event that a device at regular speed passes over leaves it at regular speed, so that one
+// that is at overdrive after it was so before. Of any other event nothing is taken as known.
+fn is_overdrive_before(byte: u8, overdrive: bool) -> bool
+    ensures { λ r. ⌜ r ≡ overdriveBefore byte overdrive ⌝ }
+{
+    is_passed_at(byte, false) & overdrive
+}
+
+// All devices hear a regular reset, and it leaves them at regular speed, whatever came before. An overdrive reset is
+// heard at overdrive alone, so that it begins a part only where the device is known to be at overdrive after it.
+fn begins_part(byte: u8, overdrive: bool) -> bool
+    ensures { λ r. ⌜ r ≡ beginsPart byte overdrive ⌝ }
+{
+    (byte == RESET) | ((byte == OVERDRIVE_RESET) & overdrive)
+}
+
+// The part that begins with the reset at event j, and ends where the walk has come to, has these writes and reads. With
+// `overdrive` the device is known to have been at overdrive before the reset.
+fn back_by(j: usize, back: Back, overdrive: bool, part: Part) -> Back
+    ensures { λ r. ⌜ r ≡ backBy j back overdrive part ⌝ }
 {
     Back {
         end: j,
         shown: back.shown | part.shown,
         decided: part.wrote,
+        overdrive,
     }
 }
 
-// The walk back looks at event j. Only a regular reset begins a part: all devices hear it, and it leaves them at
-// regular speed, whatever came before.
+// The walk goes back over an event that begins no part.
+fn back_over(back: Back, overdrive: bool) -> Back
+    ensures { λ r. ⌜ r ≡ backOver back overdrive ⌝ }
+{
+    Back {
+        end: back.end,
+        shown: back.shown,
+        decided: back.decided,
+        overdrive,
+    }
+}
+
+// The walk back looks at event j. A part begins at the speed of its reset.
 fn back_at(trace: &[u8], answers: &[u8], kind: Kind, body: &[u8], j: usize, back: Back) -> Back
     requires { ⌜ j < 18446744073709551615 ⌝ }
     ensures { λ r. ⌜ r ≡ backAt (now (trace .entry)) (now (answers .entry)) kind (now (body .entry)) j back ⌝ }
 {
-    if bits::byte_at(trace, j) == RESET {
-        let part = part_in(trace, answers, kind, body, j + 1, back.end);
-        back_by(j, back, part)
+    let byte = bits::byte_at(trace, j);
+    let after = back.overdrive;
+    let before = is_overdrive_before(byte, after);
+    if begins_part(byte, after) {
+        let overdrive = byte == OVERDRIVE_RESET;
+        let part = part_in(trace, answers, kind, body, overdrive, j + 1, back.end);
+        back_by(j, back, before, part)
     } else {
-        back
+        back_over(back, before)
     }
 }
 
@@ -490,15 +536,23 @@ fn is_careful_by(back: Back) -> bool
     back.decided & back.shown
 }
 
-// A copy that a device accepts in event k was read back: between its last write and the copy a read showed all that is
-// copied. Any one read is enough, so that the walk goes on to the last write.
-fn is_careful(trace: &[u8], answers: &[u8], kind: Kind, body: &[u8], k: usize) -> bool
-    ensures { λ r. ⌜ r ≡ carefulAt (now (trace .entry)) (now (answers .entry)) kind (now (body .entry)) k ⌝ }
+// A copy that a device accepts in event k, at overdrive or at regular speed, was read back: between its last write and
+// the copy a read showed all that is copied. Any one read is enough, so that the walk goes on to the last write.
+fn is_careful(
+    trace: &[u8],
+    answers: &[u8],
+    kind: Kind,
+    body: &[u8],
+    overdrive: bool,
+    k: usize,
+) -> bool
+    ensures { λ r. ⌜ r ≡ carefulAt (now (trace .entry)) (now (answers .entry)) kind (now (body .entry)) overdrive k ⌝ }
 {
     let mut back = Back {
         end: k,
         shown: false,
         decided: false,
+        overdrive,
     };
     let mut j = k;
     while looks_back(j, back) {
@@ -520,26 +574,27 @@ fn is_accepted(at: u8, same: bool, value: u8, body: &[u8]) -> bool
     same & (bits::byte_at(body, kind::TA1 + bits::wide(at)) == value)
 }
 
-// Device i accepts a copy in event k that was not read back.
+// Device i, which is at overdrive or not, accepts a copy in event k that was not read back.
 fn is_careless(
     trace: &[u8],
     answers: &[u8],
     image: &[u8],
     i: usize,
+    overdrive: bool,
     k: usize,
     at: u8,
     same: bool,
     value: u8,
 ) -> bool
     ensures { λ r. ⌜ r ≡ carelessAt (now (trace .entry)) (now (answers .entry)) (now (image .entry))
-        (placeIn (now (image .entry)) i) k at same value ⌝ }
+        (placeIn (now (image .entry)) i) overdrive k at same value ⌝ }
 {
     let place = bus::place_of(image, i);
     let kind = place.kind;
     let start = place.start;
     let end = place.end;
     if is_accepted(at, same, value, &image[start..end]) {
-        return !is_careful(trace, answers, kind, &image[start..end], k);
+        return !is_careful(trace, answers, kind, &image[start..end], overdrive, k);
     }
     false
 }
@@ -579,7 +634,8 @@ fn seen_with(
             if !last {
                 return seen;
             }
-            let careless = is_careless(trace, answers, image, i, k, at, same, value);
+            let overdrive = state.overdrive;
+            let careless = is_careless(trace, answers, image, i, overdrive, k, at, same, value);
             Seen {
                 commands: seen.commands,
                 completed: seen.completed,

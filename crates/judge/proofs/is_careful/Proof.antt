@@ -10,10 +10,10 @@ use Rattle.judge.proofs.is_careful.Statement.{statement}
 use Rattle.judge.proofs.is_careful.Tie as tie
 
 abbrev Inv-loop : tie.InvT-loop
-Inv-loop trace answers kind body k back₀ j₀ back j = (j ≤ k) × (backFrom trace answers kind body j back ≡ backFrom trace answers kind body k (backTo k false false))
+Inv-loop trace answers kind body overdrive k back₀ j₀ back j = (j ≤ k) × (backFrom trace answers kind body j back ≡ backFrom trace answers kind body k (backTo k false false overdrive))
 
 abbrev μ-loop : tie.MeasureT-loop
-μ-loop trace answers kind body k back₀ j₀ back j = j
+μ-loop trace answers kind body overdrive k back₀ j₀ back j = j
 
 loop-holds : tie.Need-loop-holds Inv-loop μ-loop
 loop-holds c = (omega arith, refl)

@@ -1,6 +1,6 @@
 use Rattle.judge.proofs.Laws.{part-step, part-end}
 use Rattle.judge.specs.Loops.{partSo, partOver}
-use Rattle.device.specs.Device.{resetState}
+use Rattle.device.specs.Device.{resetAt}
 use borrow.Author.Needs.{needs}
 use Prim.Native.Nat.{_≤_, _-_, _+_}
 use native.Mathlib.Omega.{arith}
@@ -10,11 +10,11 @@ use Rattle.judge.proofs.part_in.Statement.{statement}
 use Rattle.judge.proofs.part_in.Tie as tie
 
 abbrev Inv-loop : tie.InvT-loop
-Inv-loop trace answers kind body from end state₀ part₀ k₀ state part k =
-    partOver trace answers kind body end state part k (end - k) ≡ partOver trace answers kind body end resetState (partSo false false) from (end - from)
+Inv-loop trace answers kind body overdrive from end state₀ part₀ k₀ state part k =
+    partOver trace answers kind body end state part k (end - k) ≡ partOver trace answers kind body end (resetAt overdrive) (partSo false false) from (end - from)
 
 abbrev μ-loop : tie.MeasureT-loop
-μ-loop trace answers kind body from end state₀ part₀ k₀ state part k = end - k
+μ-loop trace answers kind body overdrive from end state₀ part₀ k₀ state part k = end - k
 
 at-reset-requires : tie.Need-at-reset-requires Inv-loop μ-loop
 at-reset-requires c κs = search needs

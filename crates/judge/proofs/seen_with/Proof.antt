@@ -31,8 +31,8 @@ doing-of-requires c κs = search needs
 enum-told : tie.Need-enum-told
 enum-told c = search needs
 
-add-t21 : tie.Need-add-t21
-add-t21 c = search needs
+add-t22 : tie.Need-add-t22
+add-t22 c = search needs
 
 is-write-or-copy-requires : tie.Need-is-write-or-copy-requires
 is-write-or-copy-requires c κs = search needs
@@ -108,7 +108,7 @@ seen-with-spec =
     shift-in-requires
     doing-of-requires
     enum-told
-    add-t21
+    add-t22
     is-write-or-copy-requires
     enum-told-2
     enum-known-at
