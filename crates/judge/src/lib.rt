@@ -786,8 +786,8 @@ fn look(trace: &[u8], answers: &[u8], image: &[u8], lines: &[LineState], n: usiz
     seen
 }
 
-// Each event of a recording on n devices is looked at, then given to the devices in the work space; its level and what
-// was seen leave the next verdict.
+// The reader of a recording goes from event to event. Each is looked at, then given to the n devices in the work space;
+// whether its level agrees with the recorded answer, and what was seen, leave the next verdict.
 fn judge_events(
     trace: &[u8],
     answers: &[u8],
