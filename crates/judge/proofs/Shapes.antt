@@ -52,9 +52,9 @@ look-shape = record {
 
 abbrev pub verdict-next-shape : Shape
 verdict-next-shape = record {
-  lifetimes = 2;
+  lifetimes = 0;
   outlives = [];
-  kinds = dataK verdict ∷ shrK 0 tt u8 ∷ shrK 1 tt u8 ∷ dataK seen ∷ dataK (num w64) ∷ dataK truth ∷ [];
+  kinds = dataK verdict ∷ dataK truth ∷ dataK seen ∷ dataK (num w64) ∷ [];
   gives = verdict;
 }
 

@@ -18,7 +18,6 @@ ghost use lib.ListN.{length};
 ghost use lib.Dec.{eqb};
 ghost use Rattle.sram.specs.Sram.{targetOffset};
 ghost use Rattle.device.specs.Device.{resetAt};
-ghost use Rattle.recording.specs.Recorded.{agreesAt};
 ghost use Rattle.bus.specs.Bus.{deviceWith, eventOf};
 ghost use Rattle.bus.specs.Loops.{placeIn, nextStateAsIs};
 ghost use Rattle.judge.specs.Refusal.{judgeRefusal};
@@ -716,18 +715,10 @@ fn verdict_kept(rule: Rule, event: usize, agrees: bool, k: usize) -> Verdict
     }
 }
 
-// Event k, at a level of the bench, leaves this verdict.
-fn verdict_next(
-    verdict: Verdict,
-    trace: &[u8],
-    answers: &[u8],
-    seen: Seen,
-    k: usize,
-    level: bool,
-) -> Verdict
-    ensures { λ r. ⌜ r ≡ verdictNext verdict (agreesAt (now (trace .entry)) (now (answers .entry)) k level) seen k ⌝ }
+// Event k, whose answer agrees with what was recorded or not, leaves this verdict.
+fn verdict_next(verdict: Verdict, agrees: bool, seen: Seen, k: usize) -> Verdict
+    ensures { λ r. ⌜ r ≡ verdictNext verdict agrees seen k ⌝ }
 {
-    let agrees = recording::check(trace, answers, k, level);
     match verdict {
         Verdict::Accepted => {
             if agrees {
@@ -851,8 +842,8 @@ fn look(trace: &[u8], answers: &[u8], image: &[u8], lines: &[LineState], n: usiz
     seen
 }
 
-// Each event of a recording on n devices is looked at, then given to the devices in the work space; its level and what
-// was seen leave the next verdict.
+// The reader of a recording goes from event to event. Each is looked at, then given to the n devices in the work space;
+// whether its level agrees with the recorded answer, and what was seen, leave the next verdict.
 fn judge_events(
     trace: &[u8],
     answers: &[u8],
@@ -866,13 +857,15 @@ fn judge_events(
         (judgeState Accepted (now (work .entry)) (now (lines .entry))) ⌝ }
 {
     let mut verdict = accepted();
-    let mut k: usize = 0;
-    while k < trace.len() {
+    let mut recording = recording::new(trace, answers);
+    while recording.at < trace.len() {
+        let k = recording.at;
         let byte = bits::byte_at(trace, k);
         let seen = look(trace, answers, work, lines, n, k);
         let result = bus::step(work, lines, n, byte);
-        verdict = verdict_next(verdict, trace, answers, seen, k, result.level);
-        k = k + 1;
+        let agrees = recording::agrees(recording, result.level);
+        verdict = verdict_next(verdict, agrees, seen, k);
+        recording = recording::next(recording);
     }
     verdict
 }

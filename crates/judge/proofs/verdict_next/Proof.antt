@@ -1,12 +1,7 @@
 use Rattle.judge.specs.Loops.{verdictNext}
-use Rattle.recording.specs.Recorded.{agreesAt}
-use mathlib.Core.Path.{_∙_, sym}
 use borrow.Author.Needs.{needs}
 use Rattle.judge.proofs.verdict_next.Statement.{statement}
 use Rattle.judge.proofs.verdict_next.Tie as tie
-
-check-requires : tie.Need-check-requires
-check-requires c κs = search needs
 
 enum-told : tie.Need-enum-told
 enum-told c = search needs
@@ -24,26 +19,25 @@ enum-known-verdict-2 : tie.Need-enum-known-verdict-2
 enum-known-verdict-2 c = search needs
 
 returns : tie.Need-returns
-unfolding verdictNext agreesAt
-returns c = simp (c .verdict-here .ensures, sym (c .before .before .before .before .check .ensures) ∙ c .before .if1 .taken, c .before .before .enum-told .given .1)
+unfolding verdictNext
+returns c = simp (c .verdict-here .ensures, c .before .if1 .taken, c .before .before .enum-told .given .1)
 
 returns-2 : tie.Need-returns-2
-unfolding verdictNext agreesAt
-returns-2 c = simp (sym (c .before .before .before .check .ensures) ∙ c .if1 .left, c .before .enum-told .given .1)
+unfolding verdictNext
+returns-2 c = simp (c .if1 .left, c .before .enum-told .given .1)
 
 returns-3 : tie.Need-returns-3
-unfolding verdictNext agreesAt
-returns-3 c = simp (c .verdict-kept .ensures, c .before .before .verdict .given .1, c .before .before .before .before .check .ensures)
+unfolding verdictNext
+returns-3 c = simp (c .verdict-kept .ensures, c .before .before .verdict .given .1)
 
 returns-4 : tie.Need-returns-4
-unfolding verdictNext agreesAt
-returns-4 c = simp (c .before .verdict2 .given .1, c .before .before .before .check .ensures)
+unfolding verdictNext
+returns-4 c = simp (c .before .verdict2 .given .1)
 
 pub verdict-next-spec : {M : Type 1} → statement M
 verdict-next-spec =
     tie.close
     (tie.spec
-    check-requires
     enum-told
     verdict-here-requires
     enum-known-verdict
