@@ -2,9 +2,10 @@
 // more than one device, and whether each copy was read back before.
 //
 // One pass over the trace runs the bench in a lent work space and looks at every device in every event. Only where a
-// device accepts a copy are the events before it looked at again, back to that device's last write. One device's way
-// over the line depends on its code and on the levels alone, so that it is followed by value from a reset on that it
-// heard and that left it at a known speed, with the recorded answers as levels; no second image is needed.
+// device accepts a copy are the events before it looked at again, back to a reset before that device's last write. Up
+// to a memory command or a write's address, one device's way over the line depends on its code and on the levels alone,
+// so that it is followed by value from a reset on that it heard and that left it at a known speed, with the recorded
+// answers as levels; no second image is needed.
 use device::LineState;
 use image::ACCEPTED;
 use kind::Kind;
@@ -106,7 +107,7 @@ const REGISTER_BITS: usize = 24;
 
 // ---- one device at one event
 
-// A recorded answer counts as the level of the line. Where it is not, rule A is broken, and no other rule is looked at.
+// A recorded answer counts as the level of the line. Where it is not, rule A is broken, and no other rule counts.
 fn level_at(answers: &[u8], k: usize) -> bool
     ensures { λ r. ⌜ r ≡ levelAt (now (answers .entry)) k ⌝ }
 {
