@@ -18,13 +18,15 @@ use Rattle.judge.specs.Refusal.{noJudgeRoom, judgeCauses, judgeRefusal}
 use Rattle.judge.specs.declared.Part.{Part}
 use Rattle.judge.specs.declared.Back.{Back}
 use Rattle.judge.specs.Loops.{levelAt, slotAt, passedAt, lineNext, wantedBit, readsOn, bitsIn, shownFrom, partAt, partOver, laidUpTo}
+use Rattle.line.specs.declared.Stage.{Stage}
+use Rattle.line.specs.declared.Stage.the-variants.{Rom, Memory}
 use Rattle.line.specs.Transfers.{goesOn, received}
 use Rattle.bus.specs.Loops.{placeIn, lineAt, levelOn, busState}
 use Rattle.judge.specs.Loops.{JudgeState, judgeEventAt, judgeEventsUpTo}
 use Rattle.judge.specs.declared.Doing.{Doing}
 use Rattle.judge.specs.declared.Doing.the-variants.{Command, Address, Pattern, Other}
 use Rattle.judge.specs.declared.Seen.{Seen}
-use Rattle.judge.specs.Loops.{doingOf, carelessAt, seenBy, seenWith, seenUpTo}
+use Rattle.judge.specs.Loops.{doingOf, carelessAt, seenBy, seenWith, atMemory, seenUpTo}
 use Rattle.judge.specs.Loops.{looksBack, backAt, backFrom}
 
 -- ---- the part of a trace
@@ -267,6 +269,18 @@ pub seen-so : (trace answers image : List ℕ) (k i : ℕ) (state : LineState) (
 unfolding seenWith
 seen-so trace answers image k i state seen doing last value d l v =
     (λ j. seenBy (d j) (l j) (v j) (λ at same. carelessAt trace answers image (placeIn image i) (state .overdrive) k at same (v j)) seen)
+
+rom-other : (stage : Stage) → atMemory stage ≡ false → doingOf stage ≡ Other
+unfolding atMemory doingOf
+rom-other (Rom r) e = refl
+rom-other (Memory m) e = absurd (true≢false e)
+
+-- a device in the ROM stage adds nothing
+pub rom-adds-nothing : (trace answers image : List ℕ) (lines : List LineState) (k i : ℕ) → atMemory (lineAt lines i .transfer .stage) ≡ false
+    → seenUpTo trace answers image lines k (suc i) ≡ seenUpTo trace answers image lines k i
+unfolding seenUpTo seenBy
+rom-adds-nothing trace answers image lines k i e =
+    seen-so trace answers image k i (lineAt lines i) (seenUpTo trace answers image lines k i) Other _ _ (rom-other (lineAt lines i .transfer .stage) e) refl refl
 
 -- of i devices no more than i are at the memory command
 pub seen-few : (trace answers image : List ℕ) (lines : List LineState) (k i : ℕ) → seenUpTo trace answers image lines k i .commands ≤ i

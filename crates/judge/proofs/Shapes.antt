@@ -33,6 +33,9 @@ lay-shape = record {
   gives = nil;
 }
 
+abbrev pub is-at-memory-shape : Shape
+is-at-memory-shape = record { lifetimes = 0; outlives = []; kinds = dataK line ∷ []; gives = truth }
+
 abbrev pub seen-with-shape : Shape
 seen-with-shape = record {
   lifetimes = 3;

@@ -243,6 +243,11 @@ seenWith trace answers image k i state seen =
     seenBy (doingOf (state .transfer .stage)) last value
     (λ at same. carelessAt trace answers image (placeIn image i) (state .overdrive) k at same value) seen
 
+-- The device is past the ROM stage; the rules look at no other.
+unfoldable pub atMemory : Stage → Bool
+atMemory (Rom r) = false
+atMemory (Memory m) = true
+
 unfoldable pub seenUpTo : List ℕ → List ℕ → List ℕ → List LineState → ℕ → ℕ → Seen
 seenUpTo trace answers image lines k zero = nothingSeen
 seenUpTo trace answers image lines k (suc i) =

@@ -2,9 +2,10 @@
 // more than one device, and whether each copy was read back before.
 //
 // One pass over the trace runs the bench in a lent work space and looks at every device in every event. Only where a
-// device accepts a copy are the events before it looked at again, back to that device's last write. One device's way
-// over the line depends on its code and on the levels alone, so that it is followed by value from a reset on that it
-// heard and that left it at a known speed, with the recorded answers as levels; no second image is needed.
+// device accepts a copy are the events before it looked at again, back to a reset before that device's last write. Up
+// to a memory command or a write's address, one device's way over the line depends on its code and on the levels alone,
+// so that it is followed by value from a reset on that it heard and that left it at a known speed, with the recorded
+// answers as levels; no second image is needed.
 use device::LineState;
 use image::ACCEPTED;
 use kind::Kind;
@@ -27,7 +28,7 @@ ghost use Rattle.judge.specs.Loops.{levelAt, sramDoing, memoryDoing, doi
 ghost use Rattle.judge.specs.Loops.{lineNext, markBy, markOf, wantedBytes, wantedBit, readsOn, bitsIn, shownFrom};
 ghost use Rattle.judge.specs.Loops.{readShown, partSo, partBy, partAt, partOver, overdriveBefore, beginsPart};
 ghost use Rattle.judge.specs.Loops.{backBy, backOver, backAt, looksBack, carefulBy, carefulAt};
-ghost use Rattle.judge.specs.Loops.{patternAccepted, carelessAt, seenWith, seenUpTo, nothingSeen};
+ghost use Rattle.judge.specs.Loops.{patternAccepted, carelessAt, seenWith, atMemory, seenUpTo, nothingSeen};
 ghost use Rattle.judge.specs.Loops.{verdictHere, verdictKept, verdictNext, laidUpTo, judgeState};
 ghost use Rattle.judge.specs.Loops.{judgeEventsUpTo};
 
@@ -106,7 +107,7 @@ const REGISTER_BITS: usize = 24;
 
 // ---- one device at one event
 
-// A recorded answer counts as the level of the line. Where it is not, rule A is broken, and no other rule is looked at.
+// A recorded answer counts as the level of the line. Where it is not, rule A is broken, and no other rule counts.
 fn level_at(answers: &[u8], k: usize) -> bool
     ensures { λ r. ⌜ r ≡ levelAt (now (answers .entry)) k ⌝ }
 {
@@ -645,6 +646,19 @@ fn seen_with(
     }
 }
 
+// The rules look only at devices that are past the ROM stage. In most events most devices are not, and this test alone
+// passes over them, without a copy of what was seen so far.
+fn is_at_memory(state: LineState) -> bool
+    ensures { λ r. ⌜ r ≡ atMemory (state .transfer .stage) ⌝ }
+{
+    let transfer = state.transfer;
+    let stage = transfer.stage;
+    match stage {
+        Stage::Rom(_) => false,
+        Stage::Memory(_) => true,
+    }
+}
+
 fn nothing_seen() -> Seen
     ensures { λ r. ⌜ r ≡ nothingSeen ⌝ }
 {
@@ -826,7 +840,8 @@ fn lay(image: &[u8], work: &mut [u8])
     }
 }
 
-// Each of the first n devices is looked at in event k, before the event. Nothing changes.
+// Each of the first n devices is looked at in event k, before the event; one in the ROM stage adds nothing to what is
+// seen. Nothing changes.
 fn look(trace: &[u8], answers: &[u8], image: &[u8], lines: &[LineState], n: usize, k: usize) -> Seen
     requires { ⌜ n ≤ length (now lines) ⌝ }
     ensures { λ r. ⌜ r ≡ seenUpTo (now (trace .entry)) (now (answers .entry)) (now (image .entry))
@@ -836,7 +851,9 @@ fn look(trace: &[u8], answers: &[u8], image: &[u8], lines: &[LineState], n: usiz
     let mut i: usize = 0;
     while i < n {
         let state = lines[i];
-        seen = seen_with(trace, answers, image, k, i, state, seen);
+        if is_at_memory(state) {
+            seen = seen_with(trace, answers, image, k, i, state, seen);
+        }
         i = i + 1;
     }
     seen
