@@ -33,22 +33,23 @@ DEFINES = -D_XOPEN_SOURCE=700
 
 SOURCES = command/alone.c command/bench.c command/blocks.c command/bytes.c command/cause.c command/changes.c \
     command/check.c command/code.c command/copies.c command/crc.c command/ds2480b.c command/ds9097.c command/edit.c \
-    command/expect.c command/fields.c command/gtkwave.c command/held.c command/help.c command/html.c \
-    command/html_line.c command/image.c command/inputs.c command/interrupt.c command/json.c command/json_device.c \
-    command/json_run.c command/junit.c command/kind.c command/lines.c command/live.c command/main.c command/names.c \
-    command/new.c command/options.c command/outputs.c command/parts.c command/progress.c command/record.c \
-    command/recorder.c command/replace.c command/report.c command/report_changes.c command/run.c command/search.c \
-    command/serve.c command/session.c command/show.c command/sofar.c command/staging.c command/status.c \
-    command/steps.c command/style.c command/terminal.c command/test.c command/text.c command/transactions.c \
-    command/trial.c command/vcd.c command/verdict.c command/words.c examples/line.c
+    command/expect.c command/explain.c command/fields.c command/findings.c command/gtkwave.c command/held.c \
+    command/help.c command/html.c command/html_line.c command/image.c command/inputs.c command/interrupt.c \
+    command/json.c command/json_device.c command/json_judged.c command/json_run.c command/judge.c command/junit.c \
+    command/kind.c command/lines.c command/live.c command/main.c command/names.c command/new.c command/options.c \
+    command/outputs.c command/parts.c command/progress.c command/readback.c command/record.c command/recorder.c \
+    command/replace.c command/report.c command/report_changes.c command/run.c command/search.c command/serve.c \
+    command/session.c command/show.c command/sofar.c command/staging.c command/status.c command/steps.c \
+    command/style.c command/terminal.c command/test.c command/text.c command/transactions.c command/trial.c \
+    command/vcd.c command/verdict.c command/words.c examples/line.c
 HEADERS = command/adapter.h command/alone.h command/bench.h command/bytes.h command/cause.h command/changes.h \
-    command/code.h command/commands.h command/copies.h command/crc.h command/event.h command/fields.h \
-    command/gtkwave.h command/html.h command/html_line.h command/image.h command/inputs.h command/interrupt.h \
-    command/json.h command/json_reports.h command/junit.h command/kind.h command/live.h command/options.h \
-    command/outputs.h command/parts.h command/progress.h command/reader.h command/record.h command/recorder.h \
-    command/replace.h command/report.h command/session.h command/sofar.h command/staging.h command/status.h \
-    command/style.h command/terminal.h command/text.h command/transactions.h command/trial.h command/vcd.h \
-    command/verdict.h examples/line.h include/troughiron.h
+    command/code.h command/commands.h command/copies.h command/crc.h command/event.h command/explain.h \
+    command/fields.h command/findings.h command/gtkwave.h command/html.h command/html_line.h command/image.h \
+    command/inputs.h command/interrupt.h command/json.h command/json_reports.h command/junit.h command/kind.h \
+    command/live.h command/options.h command/outputs.h command/parts.h command/progress.h command/readback.h \
+    command/reader.h command/record.h command/recorder.h command/replace.h command/report.h command/session.h \
+    command/sofar.h command/staging.h command/status.h command/style.h command/terminal.h command/text.h \
+    command/transactions.h command/trial.h command/vcd.h command/verdict.h examples/line.h include/troughiron.h
 
 all: library
 	@$(MAKE) VERSION='$(VERSION)' CC='$(CC)' CFLAGS='$(CFLAGS)' BUILD='$(BUILD)' LIBRARY='$(LIBRARY)' '$(PROGRAM)'

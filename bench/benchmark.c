@@ -1,6 +1,6 @@
 /*
- * How fast the library is, beside the second program: the run of long traces
- * and the search, for few devices and many.
+ * How fast the library is, beside the second program: the run of long traces,
+ * the judge of recorded ones and the search, for few devices and many.
  */
 #include "measure.h"
 #include "workload.h"
@@ -37,8 +37,14 @@ static struct trace trace;
 
 static struct times measure(enum task task)
 {
-    return task == SEARCH ? measure_search(&bench)
-                          : measure_run(&bench, &trace);
+    switch (task) {
+    case SEARCH:
+        return measure_search(&bench);
+    case JUDGE:
+        return measure_judge(&bench, &trace);
+    default:
+        return measure_run(&bench, &trace);
+    }
 }
 
 static struct row measure_workload(const struct workload *w)

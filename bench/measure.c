@@ -24,6 +24,8 @@ struct side {
     uint8_t codes[MOST_DEVICES * CODE_BYTES];
     uint64_t passes, resets, slots; /* of a search */
     uint64_t copied;                /* of a run: bytes */
+    uint8_t work[BENCH_ROOM];       /* of a judge, as the next */
+    uint64_t rule, event;
 };
 
 typedef uint32_t call(struct side *s, const struct trace *t);
@@ -54,6 +56,20 @@ static uint32_t search_of_second(struct side *s, const struct trace *t)
     return second_search(s->image, s->image_length, s->codes, sizeof s->codes,
                          s->answers, sizeof s->answers, &s->passes,
                          &s->resets, &s->slots);
+}
+
+static uint32_t library_judge(struct side *s, const struct trace *t)
+{
+    return troughiron_judge(s->image, s->image_length, t->events, t->length,
+                            s->answers, t->length, s->work, sizeof s->work,
+                            &s->rule, &s->event);
+}
+
+static uint32_t judge_of_second(struct side *s, const struct trace *t)
+{
+    return second_judge(s->image, s->image_length, t->events, t->length,
+                        s->answers, t->length, s->work, sizeof s->work,
+                        &s->rule, &s->event);
 }
 
 /* ------------------------------------------------------------------ */
@@ -89,12 +105,23 @@ static double time_of(call *function, struct side *s, const struct trace *t,
 
 static struct side sides[PROGRAMS];
 
-static void prepare(const struct bench *b)
+/* The answers to be judged are those of a run. */
+static void record_answers(struct side *s, const struct trace *t)
+{
+    memcpy(s->work, s->image, s->image_length);
+    if (second_run(s->work, s->image_length, t->events, t->length, s->answers,
+                   sizeof s->answers, &s->copied) != 0)
+        fail("a run was refused");
+}
+
+static void prepare(const struct bench *b, const struct trace *recorded)
 {
     memset(sides, 0, sizeof sides);
     for (int i = 0; i < PROGRAMS; i++) {
         sides[i].image_length = b->length;
         memcpy(sides[i].image, b->bytes, b->length);
+        if (recorded)
+            record_answers(&sides[i], recorded);
     }
 }
 
@@ -106,30 +133,36 @@ static unsigned calls_for(double seconds)
     return calls < 1 ? 1 : (unsigned)calls + 1;
 }
 
+/* What is measured: a function of both programs, on what they are given. */
+struct subject {
+    call *functions[PROGRAMS];
+    const struct bench *bench;
+    const struct trace *trace;
+    int judges; /* whether answers are recorded for it */
+};
+
 /* One repetition: both programs from the same bench to the same outputs. */
-static struct times repeat(call *const functions[PROGRAMS],
-                           const struct bench *b, const struct trace *t,
-                           unsigned calls)
+static struct times repeat(const struct subject *s, unsigned calls)
 {
     struct times times;
 
-    prepare(b);
+    prepare(s->bench, s->judges ? s->trace : NULL);
     for (int i = 0; i < PROGRAMS; i++)
-        times.of[i] = time_of(functions[i], &sides[i], t, calls);
+        times.of[i] = time_of(s->functions[i], &sides[i], s->trace, calls);
     if (memcmp(&sides[LIBRARY], &sides[SECOND], sizeof *sides) != 0)
         fail("the outputs of the two programs differ");
+    if (sides[SECOND].rule != 0)
+        fail("a careful session breaks a rule");
     return times;
 }
 
-static struct times best_of_several(call *const functions[PROGRAMS],
-                                    const struct bench *b,
-                                    const struct trace *t)
+static struct times best_of_several(const struct subject *s)
 {
-    struct times best = repeat(functions, b, t, 1);
+    struct times best = repeat(s, 1);
     const unsigned calls = calls_for(best.of[SECOND]);
 
     for (int k = 0; k < REPETITIONS; k++) {
-        const struct times again = repeat(functions, b, t, calls);
+        const struct times again = repeat(s, calls);
 
         for (int i = 0; i < PROGRAMS; i++)
             if (again.of[i] < best.of[i])
@@ -140,15 +173,21 @@ static struct times best_of_several(call *const functions[PROGRAMS],
 
 struct times measure_run(const struct bench *b, const struct trace *t)
 {
-    static call *const functions[PROGRAMS] = { library_run, run_of_second };
-
-    return best_of_several(functions, b, t);
+    return best_of_several(&(struct subject){
+        .functions = { library_run, run_of_second }, .bench = b, .trace = t });
 }
 
 struct times measure_search(const struct bench *b)
 {
-    static call *const functions[PROGRAMS] = { library_search,
-                                               search_of_second };
+    return best_of_several(&(struct subject){
+        .functions = { library_search, search_of_second }, .bench = b });
+}
 
-    return best_of_several(functions, b, NULL);
+struct times measure_judge(const struct bench *b, const struct trace *t)
+{
+    return best_of_several(&(struct subject){
+        .functions = { library_judge, judge_of_second },
+        .bench = b,
+        .trace = t,
+        .judges = 1 });
 }

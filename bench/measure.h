@@ -21,4 +21,7 @@ struct times {
 struct times measure_run(const struct bench *b, const struct trace *t);
 struct times measure_search(const struct bench *b);
 
+/* Of a session that was recorded as it is run, and is found careful. */
+struct times measure_judge(const struct bench *b, const struct trace *t);
+
 #endif

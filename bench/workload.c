@@ -51,86 +51,105 @@ static void read_from(struct trace *t, uint8_t command, size_t address,
     trace_read(t, 8 * bytes);
 }
 
+/* Sessions being written on a bench. */
+struct sessions {
+    struct dice dice;
+    struct trace *trace;
+    const struct bench *bench;
+    int alone; /* whether a device is always come to by its code */
+};
+
 /* Skip ROM, or Match ROM of a device. */
-static void address_device(struct dice *dice, struct trace *t,
-                           const struct bench *b, size_t device)
+static void address_device(struct sessions *s, size_t device)
 {
-    if (dice_once_in(dice, 2))
-        trace_skip(t);
+    if (!s->alone && dice_once_in(&s->dice, 2))
+        trace_skip(s->trace);
     else
-        trace_match(t, bench_see(b, device, 0));
+        trace_match(s->trace, bench_see(s->bench, device, 0));
 }
 
 /* Eight bytes written, read back and copied, then memory read. */
-static void use_sram(struct dice *dice, struct trace *t, const struct bench *b,
-                     size_t device)
+static void use_sram(struct sessions *s, size_t device)
 {
     enum { BYTES = 8 };
-    const size_t target =
-        dice_below(dice, kind_memory_bytes(b->kinds[device]) / BYTES) * BYTES;
+    const size_t size = kind_memory_bytes(s->bench->kinds[device]);
+    const size_t target = dice_below(&s->dice, size / BYTES) * BYTES;
     const uint8_t ending = (uint8_t)(target % PAGE_BYTES + BYTES - 1);
+    struct trace *const t = s->trace;
 
-    address_device(dice, t, b, device);
+    address_device(s, device);
     trace_byte(t, WRITE_SCRATCHPAD);
     trace_address(t, (uint16_t)target);
-    trace_bits(t, dice_roll(dice), 8 * BYTES);
-    address_device(dice, t, b, device);
+    trace_bits(t, dice_roll(&s->dice), 8 * BYTES);
+    address_device(s, device);
     trace_byte(t, READ_SCRATCHPAD);
     trace_read(t, 8 * (3 + BYTES));
-    address_device(dice, t, b, device);
+    address_device(s, device);
     trace_byte(t, COPY_SCRATCHPAD);
     trace_address(t, (uint16_t)target);
     trace_byte(t, ending);
     trace_read(t, 8);
-    address_device(dice, t, b, device);
+    address_device(s, device);
     read_from(t, READ_MEMORY, target, 2 * BYTES);
 }
 
 /* Two bytes written, with their pulses where the bench takes them. */
-static void program(struct dice *dice, struct trace *t, const struct bench *b,
-                    uint8_t command)
+static void program(struct sessions *s, uint8_t command)
 {
+    struct trace *const t = s->trace;
+
     trace_byte(t, command);
-    trace_address(t, (uint16_t)dice_below(dice, DATA_BYTES));
+    trace_address(t, (uint16_t)dice_below(&s->dice, DATA_BYTES));
     for (int i = 0; i < 2; i++) {
-        trace_byte(t, (uint8_t)dice_roll(dice));
+        trace_byte(t, (uint8_t)dice_roll(&s->dice));
         trace_read(t, 8);
-        if (bench_takes_pulses(b))
+        if (bench_takes_pulses(s->bench))
             trace_event(t, PULSE);
         trace_read(t, 8);
     }
 }
 
 /* Each command of a DS1982. */
-static void use_eprom(struct dice *dice, struct trace *t,
-                      const struct bench *b, size_t device)
+static void use_eprom(struct sessions *s, size_t device)
 {
-    const size_t address = dice_below(dice, DATA_BYTES - PAGE_BYTES);
+    const size_t address = dice_below(&s->dice, DATA_BYTES - PAGE_BYTES);
+    struct trace *const t = s->trace;
 
-    address_device(dice, t, b, device);
-    program(dice, t, b, WRITE_DATA);
-    address_device(dice, t, b, device);
-    program(dice, t, b, WRITE_STATUS);
-    address_device(dice, t, b, device);
+    address_device(s, device);
+    program(s, WRITE_DATA);
+    address_device(s, device);
+    program(s, WRITE_STATUS);
+    address_device(s, device);
     read_from(t, READ_DATA, address, 16);
-    address_device(dice, t, b, device);
+    address_device(s, device);
     read_from(t, READ_STATUS, 0, 1 + STATUS_BYTES + 1);
-    address_device(dice, t, b, device);
+    address_device(s, device);
     read_from(t, READ_DATA_BY_PAGE, address, 1 + PAGE_BYTES);
+}
+
+static void write_sessions(struct trace *t, const struct bench *b, int alone)
+{
+    struct sessions s = { dice_for(1, b->count), t, b, alone };
+
+    while (!is_full(t)) {
+        const size_t device = dice_below(&s.dice, b->count);
+
+        if (b->kinds[device] == DS1982)
+            use_eprom(&s, device);
+        else
+            use_sram(&s, device);
+    }
 }
 
 static void mixed_sessions(struct trace *t, const struct bench *b)
 {
-    struct dice dice = dice_for(1, b->count);
+    write_sessions(t, b, 0);
+}
 
-    while (!is_full(t)) {
-        const size_t device = dice_below(&dice, b->count);
-
-        if (b->kinds[device] == DS1982)
-            use_eprom(&dice, t, b, device);
-        else
-            use_sram(&dice, t, b, device);
-    }
+/* No command goes to several devices, and what is copied was read back. */
+static void careful_sessions(struct trace *t, const struct bench *b)
+{
+    write_sessions(t, b, 1);
 }
 
 /* All DS1996 are brought to overdrive, and stay there. */
@@ -148,6 +167,11 @@ static void at_overdrive(void (*session)(struct trace *, const struct bench *),
 static void mixed_at_overdrive(struct trace *t, const struct bench *b)
 {
     at_overdrive(mixed_sessions, t, b);
+}
+
+static void careful_at_overdrive(struct trace *t, const struct bench *b)
+{
+    at_overdrive(careful_sessions, t, b);
 }
 
 /* ------------------------------------------------------------------ */
@@ -200,6 +224,13 @@ const struct workload workloads[] = {
     { "all but one wait, DS1996", RUN, few_devices, ds1996_only,
       all_but_one_wait },
     { "search, DS1996", SEARCH, few_devices, ds1996_only, NULL },
+    { "careful, small kinds", RUN, many_devices, small_kinds,
+      careful_sessions },
+    { "the same judged", JUDGE, many_devices, small_kinds, careful_sessions },
+    { "careful at overdrive, DS1996", RUN, few_devices, ds1996_only,
+      careful_at_overdrive },
+    { "the same judged", JUDGE, few_devices, ds1996_only,
+      careful_at_overdrive },
     { NULL, RUN, NULL, NULL, NULL },
 };
 

@@ -11,8 +11,8 @@
 enum { SIZES = 3 };
 extern const size_t many_devices[SIZES], few_devices[SIZES];
 
-/* What is done with a bench: a session on it is run, or it is searched. */
-enum task { RUN, SEARCH };
+/* What is done with a bench: a session on it is run or judged, or a search. */
+enum task { RUN, JUDGE, SEARCH };
 
 struct workload {
     const char *name;

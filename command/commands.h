@@ -11,6 +11,7 @@ int search_command(struct words *words);
 int check_command(struct words *words);
 int serve_command(struct words *words);
 int test_command(struct words *words);
+int judge_command(struct words *words);
 int edit_command(struct words *words);
 
 /* The help of the command ("") or of a subcommand, or null. */

@@ -7,6 +7,7 @@ _troughiron_options() {
         edit) echo --output --force ;;
         run) echo --output --trace --answers --write-trace --vcd --html --json --bits --quiet --room --force ;;
         test) echo --junit --json --force ;;
+        judge) echo --answers --trace --json ;;
         search) echo --json --answers --write-trace --vcd --force ;;
         serve) echo --adapter --link --output --record --log --script --quiet --force ;;
     esac
@@ -16,9 +17,9 @@ _troughiron() {
     local word=${COMP_WORDS[COMP_CWORD]} before=${COMP_WORDS[COMP_CWORD - 1]} command=${COMP_WORDS[1]} words=''
 
     if [ "$COMP_CWORD" = 1 ]; then
-        words='new show edit run test search check serve help --version --help'
+        words='new show edit run test judge search check serve help --version --help'
     elif [ "$command" = help ]; then
-        words='new show edit run test search check serve'
+        words='new show edit run test judge search check serve'
     elif [ "$before" = --adapter ]; then
         words='ds9097 ds2480b'
     elif [ "${word#-}" != "$word" ]; then

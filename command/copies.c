@@ -12,7 +12,10 @@
  * accepted a copy is seen as a master sees it: it answers zeros until a reset, longer than it has bits to read. So that
  * these are few, its memory is filled with ones: what a device receives does not depend on it.
  */
-enum { READS = 8 * (3 + PAGE_SIZE + 1) }; /* one byte more than the registers and the scratchpad */
+enum {
+    READS = 8 * (3 + PAGE_SIZE + 1), /* one byte more than the registers and the scratchpad */
+    MOST_LOOKED_AT = TROUGHIRON_MOST_EVENTS - PART_START - READS /* of a part, so that the reads have room after them */
+};
 
 struct search {
     const struct carried *carried;
@@ -57,17 +60,6 @@ static void add(struct copies *c, struct copy copy)
     c->list[c->count++] = copy;
 }
 
-/* The end of the events of one speed that start with one of the part. */
-static size_t same_speed_end(const struct search *s, size_t first)
-{
-    const uint8_t *const events = s->carried->events->data;
-    size_t end = first + 1;
-
-    while (end < s->part.end && is_overdrive(events[end]) == is_overdrive(events[first]))
-        end++;
-    return end;
-}
-
 /* The first of some events with which the device accepts a copy, where it has accepted none before them. */
 static bool find_copy(const struct search *s, size_t without, size_t with)
 {
@@ -88,11 +80,18 @@ static bool find_copy(const struct search *s, size_t without, size_t with)
     return true;
 }
 
-/* A device copies once between two resets. What it answers then it answers at its own speed alone. */
+/*
+ * A device copies once between two resets, and long before a trace is full, unless it does not hear nearly all of it.
+ * What it answers then it answers at its own speed alone.
+ */
 static void part_copies(const struct search *s)
 {
-    for (size_t from = s->part.first, end; from < s->part.end; from = end) {
-        end = same_speed_end(s, from);
+    struct part part = s->part;
+
+    if (part.end - part.first > MOST_LOOKED_AT)
+        part.end = part.first + MOST_LOOKED_AT;
+    for (size_t from = part.first, end; from < part.end; from = end) {
+        end = same_speed_end(s->carried, &part, from);
         if (find_copy(s, from, end))
             return;
     }

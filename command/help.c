@@ -13,6 +13,7 @@ static const char whole[] =
     "  run IMAGE SESSION      run a session and print what the line answered\n"
     "  run SESSION            the same of a session that names its bench\n"
     "  test SESSION...        run sessions that name their bench as tests, a line each\n"
+    "  judge IMAGE SESSION    judge whether a session, or a recording of one, is careful\n"
     "  search IMAGE           find the codes on the line\n"
     "  check CODE             check a registration code\n"
     "  serve IMAGE            put the devices behind a serial port, for a program to drive\n"
@@ -23,7 +24,8 @@ static const char whole[] =
     "A file named '-' is standard input or standard output.\n"
     "\n"
     "Exit status: 0 done, 1 bad input or a system error, 2 wrong usage, 3 'check' says not valid,\n"
-    "5 'run': an expectation is not met, 11 to 17 and 21 the library's refusals 1 to 7 and 11.\n";
+    "4 'judge' does not accept the session, 5 'run': an expectation is not met,\n"
+    "11 to 17 and 21 the library's refusals 1 to 7 and 11.\n";
 
 static const char new_help[] =
     "usage: troughiron new [OPTION...] IMAGE DEVICE...\n"
@@ -124,6 +126,25 @@ static const char test_help[] =
     "  --json           print the outcome for programs, in place of those lines\n"
     "  -f, --force      replace FILE where it is such a file of this command\n";
 
+static const char judge_help[] =
+    "usage: troughiron judge [OPTION...] IMAGE SESSION\n"
+    "       troughiron judge [OPTION...] SESSION\n"
+    "       troughiron judge [OPTION...] IMAGE --trace FILE\n"
+    "\n"
+    "Accepts a session if all of this holds, and else says which rule is broken, at which event, counted from 0,\n"
+    "and line, by which device, and what was missing:\n"
+    "  A  The answers that a program recorded are those of the bench.\n"
+    "  B  No memory command 0F or 55 is complete while more than one device is there to take it.\n"
+    "  C  Each accepted copy comes after a write scratchpad to that device in this session; and between the 16th\n"
+    "     address bit of its last one and the copy, a read scratchpad of it showed on the line TA1, TA2, E/S and\n"
+    "     all bytes from T4:T0 through the ending offset, as they stand just before the copy.\n"
+    "A is looked for first, over the whole session, then the first of B and C. What a session expects is no matter.\n"
+    "Ends with 0 for a session that is accepted and with 4 for another.\n"
+    "\n"
+    "  --answers FILE   the answers that were recorded, a byte for each event; else those of the bench\n"
+    "  --trace FILE     take raw events, a byte each, in place of a session\n"
+    "  --json           print the verdict for programs\n";
+
 static const char search_help[] =
     "usage: troughiron search [OPTION...] IMAGE\n"
     "\n"
@@ -179,7 +200,8 @@ const char *help_text(const char *command)
     } texts[] = { { "", whole },        { "new", new_help },       { "show", show_help },
                   { "edit", edit_help },
                   { "run", run_help },  { "search", search_help }, { "check", check_help },
-                  { "serve", serve_help }, { "test", test_help } };
+                  { "serve", serve_help }, { "test", test_help },
+                  { "judge", judge_help } };
 
     for (size_t i = 0; i < sizeof texts / sizeof *texts; i++)
         if (strcmp(command, texts[i].command) == 0)

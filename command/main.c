@@ -45,6 +45,7 @@ static int dispatch(struct words *words)
                      { "edit", edit_command },
                      { "run", run_command },
                      { "test", test_command },
+                     { "judge", judge_command },
                      { "search", search_command },
                      { "check", check_command },
                      { "serve", serve_command } };

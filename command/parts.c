@@ -74,6 +74,28 @@ struct part part_at(const struct parts *p, size_t event)
     return p->list[i];
 }
 
+size_t same_speed_end(const struct carried *c, const struct part *part, size_t first)
+{
+    const uint8_t *const events = c->events->data;
+    size_t end = first + 1;
+
+    while (end < part->end && is_overdrive(events[end]) == is_overdrive(events[first]))
+        end++;
+    return end;
+}
+
+uint8_t byte_before(const struct carried *c, size_t place)
+{
+    const bool overdrive = is_overdrive(c->events->data[place - 1]);
+    uint8_t levels[8] = { 0 };
+    size_t left = 8;
+
+    for (size_t i = place; i > 0 && left > 0; i--)
+        if (is_slot(c->events->data[i - 1]) && is_overdrive(c->events->data[i - 1]) == overdrive)
+            levels[--left] = c->levels[i - 1];
+    return byte_of_levels(levels);
+}
+
 void parts_free(struct parts *p)
 {
     free(p->list);

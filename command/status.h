@@ -8,10 +8,11 @@
 /* Exit statuses. A refusal of the library ends with REFUSED plus its number. */
 enum {
     DONE = 0,
-    BAD = 1,       /* bad input, or the system does not give what is needed */
-    USAGE = 2,     /* the command line is not one that the command knows */
-    NOT_VALID = 3, /* check: the code is not valid */
-    NOT_MET = 5,   /* a session: an expectation is not met */
+    BAD = 1,          /* bad input, or the system does not give what is needed */
+    USAGE = 2,        /* the command line is not one that the command knows */
+    NOT_VALID = 3,    /* check: the code is not valid */
+    NOT_ACCEPTED = 4, /* judge: the session breaks a rule */
+    NOT_MET = 5,      /* a session: an expectation is not met */
     REFUSED = 10
 };
 

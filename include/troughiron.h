@@ -155,6 +155,40 @@ uint32_t troughiron_search(const uint8_t *image, size_t image_length,
                            uint8_t *trace, size_t trace_length,
                            uint64_t *passes, uint64_t *resets, uint64_t *slots);
 
+/*
+ * Judges a recorded session: a trace, and the answers that a program recorded for it. Three rules are looked at:
+ *   A (1)  the recorded answers are the bench's, byte by byte; a recorded byte over 1 differs
+ *   B (2)  no memory command 0Fh or 55h completes while more than one device, of any kind, is at the memory command
+ *   C (3)  each copy that a device accepts comes after a write scratchpad to that device in this trace (one that is cut
+ *          before its 16th address bit is none), and between the 16th address bit of its last write and the copy at
+ *          least one read scratchpad of that device showed on the line TA1, TA2, E/S and all bytes from T4:T0 through
+ *          the ending offset, with the values that they have just before the copy is accepted; where no bytes lie
+ *          between, the registers suffice
+ * A device takes part only in the slots that it hears: a command, an address, a pattern and a read count at the
+ * device's own speed. In a read a device at regular speed passes over events 4, 5 and 6, and a regular slot ends the
+ * read of a device at overdrive. Rule B counts the devices at the memory command at either speed.
+ *
+ * Returns 0 where the session is judged. Then
+ *   - *rule is 0 if all three rules are kept, else the number of the rule that is broken, and *event the event that
+ *     breaks it, counted from 0: of A the first answer that differs, of B the last bit of the command, of C the last
+ *     bit of the copy's pattern. *event is 0 where no rule is broken. A is looked for first, over the whole trace, then
+ *     the earliest B or C.
+ *   - work holds, whatever the verdict is, the image as troughiron_run leaves it after the whole trace; bytes of work
+ *     past the image's length are as they were. The image itself is only read.
+ *
+ * Returns the number of a refusal otherwise, and then nothing is changed, *rule and *event included; the order is that
+ * of troughiron_run:
+ *   1 to 6 and 11  as for troughiron_run
+ *   7              answers of another length than the trace, or work shorter than the image
+ *
+ * work must not overlap image, trace or answers. rule and event must not be null.
+ */
+uint32_t troughiron_judge(const uint8_t *image, size_t image_length,
+                          const uint8_t *trace, size_t trace_length,
+                          const uint8_t *answers, size_t answers_length,
+                          uint8_t *work, size_t work_length,
+                          uint64_t *rule, uint64_t *event);
+
 /* The registration check: 1 for exactly the 8 bytes whose CRC comes out zero, else 0. */
 uint32_t troughiron_registration_check(const uint8_t *code, size_t code_length);
 

@@ -20,26 +20,36 @@ def two_devices() -> bytearray:
         return bytearray(path.read_bytes())
 
 
-def store(image: bytearray, code: Optional[bytes], address: int, value: int) -> int:
-    """Stores a byte, in the device of a code or, with none, in whatever is there. Returns the bytes copied."""
+def store(image: bytearray, code: Optional[bytes], address: int, value: int) -> tuple[bytes, int]:
+    """Stores a byte, in the device of a code or, with none, in whatever is there.
+
+    Returns the trace that it sent, and the bytes copied."""
     start = bench.reset() + (bench.send(MATCH, *code) if code else bench.send(SKIP))
-    bench.run(image, start + bench.send(WRITE_SCRATCHPAD, address & 0xFF, address >> 8, value) + bench.reset())
-    ask = start + bench.send(READ_SCRATCHPAD)
-    answers, _ = bench.run(image, ask + bench.read(3))
-    pattern = bench.spelled(answers[len(ask) :])
-    _, copied = bench.run(image, start + bench.send(COPY_SCRATCHPAD, *pattern))
-    return copied
+    trace = start + bench.send(WRITE_SCRATCHPAD, address & 0xFF, address >> 8, value)
+    trace += start + bench.send(READ_SCRATCHPAD) + bench.read(4)
+    answers, _ = bench.run(bytearray(image), trace)
+    registers = bench.spelled(answers[-32:])[:3]
+    trace += start + bench.send(COPY_SCRATCHPAD, *registers)
+    _, copied = bench.run(image, trace)
+    return trace, copied
 
 
 def test_a_careless_driver_writes_both() -> None:
-    assert store(two_devices(), None, 0x26, 0x41) == 2
+    image = two_devices()
+    before = bytes(image)
+    trace, copied = store(image, None, 0x26, 0x41)
+    assert copied == 2
+    assert bench.judge(before, trace).rule == "B"
 
 
 def test_a_careful_driver_writes_one() -> None:
     image = two_devices()
+    before = bytes(image)
     found = bench.search(image)
     assert found.passes == 2
-    assert store(image, found.codes[0], 0x26, 0x41) == 1
+    trace, copied = store(image, found.codes[0], 0x26, 0x41)
+    assert copied == 1
+    assert bench.judge(before, trace).accepted
 
 
 if __name__ == "__main__":

@@ -19,7 +19,7 @@ import ctypes.util
 import os
 import pathlib
 from dataclasses import dataclass
-from typing import Iterable, Union
+from typing import Iterable, Optional, Union
 
 Bytes = Union[bytes, bytearray, memoryview]
 
@@ -37,7 +37,7 @@ _CAUSES = {
     4: "two devices with the same code",
     5: "the trace: too long, or a byte that is no event",
     6: "a program pulse while some device is not a DS1982",
-    7: "too little room",
+    7: "too little room, or other than one answer for each event",
     11: "a trace that does not begin with a reset at regular speed",
 }
 
@@ -59,6 +59,21 @@ class Found:
     passes: int
     resets: int
     slots: int
+
+
+@dataclass(frozen=True)
+class Verdict:
+    """What a session is judged: `rule` is "" where it is accepted, else the rule that is broken, "A", "B" or "C".
+
+    `event` is where, counted from 0, and `image` the devices as the whole trace leaves them."""
+
+    rule: str
+    event: int
+    image: bytes
+
+    @property
+    def accepted(self) -> bool:
+        return not self.rule
 
 
 def _candidates() -> Iterable[str]:
@@ -88,6 +103,8 @@ def _typed(library: ctypes.CDLL) -> ctypes.CDLL:
     number = ctypes.POINTER(ctypes.c_uint64)
     library.troughiron_run.argtypes = slice_type * 3 + [number]
     library.troughiron_run.restype = ctypes.c_uint32
+    library.troughiron_judge.argtypes = slice_type * 4 + [number] * 2
+    library.troughiron_judge.restype = ctypes.c_uint32
     library.troughiron_search.argtypes = slice_type * 3 + [number] * 3
     library.troughiron_search.restype = ctypes.c_uint32
     library.troughiron_registration_check.argtypes = slice_type
@@ -127,6 +144,19 @@ def run(image: bytearray, trace: Bytes) -> tuple[bytes, int]:
     bench, events = _Slice(image, shared=True), _Slice(trace)
     _answered(_library.troughiron_run(*bench.words(), *events.words(), *answers.words(), ctypes.byref(copied)))
     return answers.taken(len(trace)), copied.value
+
+
+def judge(image: Bytes, trace: Bytes, answers: Optional[Bytes] = None) -> Verdict:
+    """Judges a recorded session: its image, the trace that a program sent, and the answers that it recorded.
+
+    Without answers they are the bench's own. The image is only read."""
+    if answers is None:
+        answers, _ = run(bytearray(image), trace)
+    bench, events, recorded, work = _Slice(image), _Slice(trace), _Slice(answers), _Slice(bytes(len(image)))
+    rule, event = ctypes.c_uint64(0), ctypes.c_uint64(0)
+    slices = (*bench.words(), *events.words(), *recorded.words(), *work.words())
+    _answered(_library.troughiron_judge(*slices, ctypes.byref(rule), ctypes.byref(event)))
+    return Verdict(("", "A", "B", "C")[rule.value], event.value, work.taken(len(image)))
 
 
 def search(image: Bytes) -> Found:

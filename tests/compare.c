@@ -15,8 +15,9 @@
 
 /* A function of the library is compared once it stands here. */
 static const struct subject *const subjects[] = {
-    &run_subject,          &looked_subject, &search_subject,
-    &registration_subject, &feed_subject,   &view_subject
+    &run_subject,    &looked_subject,       &judge_subject,
+    &search_subject, &registration_subject, &feed_subject,
+    &view_subject
 };
 
 enum { SUBJECTS = sizeof subjects / sizeof *subjects };
@@ -49,8 +50,8 @@ static void usage(FILE *out)
           "  --case K       replays a case: NUMBER of a generated one, or\n"
           "                 GROUP:NUMBER of a small one\n"
           "  --generated    leaves the small cases out\n"
-          "  --subject NAME run, looked, search, registration, feed or view"
-          " only\n",
+          "  --subject NAME run, looked, judge, search, registration, feed or"
+          " view only\n",
           out);
 }
 

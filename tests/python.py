@@ -58,5 +58,37 @@ def calls() -> None:
     check("bytes", bench.spelled(bench.send(0x0F, 0xA5)) == b"\x0f\xa5" and bench.read(1) == b"\x01" * 8)
 
 
+def verdict(what: str, judged: bench.Verdict, rule: str, event: int) -> None:
+    check(f"{what}: {judged.rule} {judged.event}", (judged.rule, judged.event) == (rule, event))
+    check(f"{what}: accepted", judged.accepted == (rule == ""))
+
+
+def judged() -> None:
+    one, pair = image_of("ds1992"), image_of("ds1992", "ds1992")
+    start = bench.reset() + bench.send(0xCC)
+    write, back = start + bench.send(0x0F, 0x26, 0x00, 0x41), start + bench.send(0xAA)
+    copy = start + bench.send(0x55, 0x26, 0x00, 0x06)
+    careful = write + back + bench.read(4) + copy
+    before = bytes(one)
+    verdict("a careful session", bench.judge(one, careful), "", 0)
+    check("a judged image is changed", bytes(one) == before)
+    left = bytearray(one)
+    answers, copied = bench.run(left, careful)
+    check("what is left", copied == 1 and bench.judge(one, careful, answers).image == bytes(left))
+    other = bytearray(answers)
+    other[60] ^= 1
+    verdict("another answer", bench.judge(one, careful, other), "A", 60)
+    verdict("two devices", bench.judge(pair, careful), "B", 16)
+    verdict("no read back", bench.judge(one, write + copy), "C", len(write + copy) - 1)
+    for wrong in (answers[:-1], answers + b"\x01"):
+        try:
+            bench.judge(one, careful, wrong)
+        except bench.Refused as refusal:
+            check(f"answers of another length: refusal {refusal.number}", refusal.number == 7)
+        else:
+            sys.exit("tests/python.py: answers of another length are not refused")
+
+
 calls()
 refusals()
+judged()

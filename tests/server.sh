@@ -1,8 +1,9 @@
-# A server of the command under test, for tests/serve and tests/others, which read this file in the project's folder: it
-# builds the command, makes an empty folder, goes there, and defines how a server starts and ends. CC and CFLAGS name
-# another compiler and further options.
+# A server of the command under test, for tests/serve, tests/judge and tests/others, which read this file in the
+# project's folder: it builds the command, makes an empty folder, goes there, and defines how a server starts and ends.
+# CC and CFLAGS name another compiler and further options.
 root=$PWD
 build=target/tests/command
+rm -rf "$build" # one that was built with other options would be taken as it is
 make -s BUILD="$build" CC="${CC:-cc}" CFLAGS="-O2 ${CFLAGS:-}"
 troughiron=$root/$build/troughiron
 test=tests/$(basename "$0")

@@ -20,6 +20,7 @@ static int trace_too_long(struct run_case *c, size_t choice)
     return 1;
 }
 
+/* Often the first byte that is no event. */
 static int byte_over_6(struct run_case *c, size_t choice)
 {
     size_t place;
@@ -27,7 +28,9 @@ static int byte_over_6(struct run_case *c, size_t choice)
     if (c->trace.length == 0)
         return 0;
     place = digit(&choice, c->trace.length);
-    c->trace.events[place] = (uint8_t)(NO_EVENT + digit(&choice, 249));
+    c->trace.events[place] = NO_EVENT;
+    if (digit(&choice, 3) != 0)
+        c->trace.events[place] += (uint8_t)digit(&choice, 249);
     return 1;
 }
 

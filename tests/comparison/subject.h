@@ -47,6 +47,7 @@ void *subject_allocate(const char *name, size_t bytes);
 
 extern const struct subject run_subject;
 extern const struct subject looked_subject;
+extern const struct subject judge_subject;
 extern const struct subject search_subject;
 extern const struct subject registration_subject;
 extern const struct subject feed_subject;

@@ -12,7 +12,7 @@
 #include <stdio.h>
 
 enum { LIBRARY, SECOND, PROGRAMS };
-enum { MOST_BUFFERS = 3, MOST_NUMBERS = 4 };
+enum { MOST_BUFFERS = 4, MOST_NUMBERS = 4 };
 
 /* No level and no event, so that a byte that is not written shows. */
 enum { UNWRITTEN = 0xA5 };

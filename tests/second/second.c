@@ -1,6 +1,6 @@
 /*
- * A 1-Wire bus of DS1992, DS1993, DS1996 and DS1982 devices, and a searching
- * master.
+ * A 1-Wire bus of DS1992, DS1993, DS1996 and DS1982 devices, a judge of
+ * sessions that were recorded on it, and a searching master.
  *
  * Everything on the bus is a transfer: a number of slots in which a party
  * shifts bits out of one register and line levels into another.  A 1 shifted
@@ -943,6 +943,232 @@ uint32_t second_looked(const uint8_t *image, size_t image_len,
         looked[i] = bus_look(&bus, (enum event)trace[i]);
         bus_event(&bus, (enum event)trace[i]);
     }
+    return 0;
+}
+
+/* ------------------------------------------------------------------ */
+/* Judging a recorded session                                          */
+
+/* The rules of a careful session, and that it breaks none of them. */
+enum rule { ACCEPTED, ANSWERS_DIFFER, COMMAND_SHARED, COPY_NOT_CHECKED };
+
+/*
+ * A read scratchpad: the event from which on the line shows it, at which
+ * speed, and a bit for each device that took the command.
+ */
+struct scratchpad_read {
+    size_t start;
+    int overdrive;
+    uint64_t devices;
+};
+
+/* A read takes a reset and two commands, so there are no more than these. */
+enum { MAX_READS = MAX_EVENTS / (1 + 8 + 8) };
+
+/*
+ * A judge watches the bus from outside.  A transfer with one slot to go tells
+ * what that slot completes.
+ */
+struct judge {
+    struct bus bus;
+
+    /* the recorded session, and the place in it */
+    const uint8_t *trace, *answers;
+    size_t length, event;
+
+    /* all reads so far; those before a device's last write are of no use */
+    struct scratchpad_read reads[MAX_READS];
+    size_t count;
+    size_t useful[MAX_DEVICES]; /* first of them, MAX_READS before a write */
+
+    /* the first answer that differs, and the first event breaking a rule */
+    size_t differs;
+    enum rule rule;
+    size_t broken;
+};
+
+/* What the event completes for each device; nothing if it is not a slot. */
+static void judge_foresee(const struct judge *j, continuation **completed)
+{
+    const uint8_t event = j->trace[j->event];
+    const int overdrive = is_overdrive_slot(event);
+
+    for (size_t i = 0; i < j->bus.count; i++) {
+        const struct device *const d = &j->bus.devices[i];
+        const int heard = is_slot(event) && d->overdrive == overdrive;
+
+        completed[i] = heard && d->left == 1 ? d->next : NULL;
+    }
+}
+
+static size_t judge_at_memory_command(const struct judge *j)
+{
+    size_t count = 0;
+
+    for (size_t i = 0; i < j->bus.count; i++)
+        count += j->bus.devices[i].next == j->bus.devices[i].memory_command;
+    return count;
+}
+
+/* The first to be broken stays. */
+static void judge_break(struct judge *j, enum rule rule)
+{
+    if (j->rule != ACCEPTED)
+        return;
+    j->rule = rule;
+    j->broken = j->event;
+}
+
+/*
+ * The next slot of a read from an event on; the length where there is none.
+ * A device at regular speed does not hear what is short, and goes on after it.
+ */
+static size_t judge_next_slot(const struct judge *j, int overdrive,
+                              size_t event)
+{
+    while (!overdrive && event < j->length && j->trace[event] > PROGRAM_PULSE)
+        event++;
+    if (event < j->length && is_slot(j->trace[event])
+        && is_overdrive_slot(j->trace[event]) == overdrive)
+        return event;
+    return j->length;
+}
+
+/*
+ * Whether a read showed these bytes.  Where the recorded answers are not the
+ * levels of the line, what is found here does not matter.
+ */
+static int judge_showed(const struct judge *j,
+                        const struct scratchpad_read *read,
+                        const uint8_t *bytes, size_t count)
+{
+    size_t event = read->start;
+
+    for (size_t i = 0; i < 8 * count; i++, event++) {
+        event = judge_next_slot(j, read->overdrive, event);
+        if (event == j->length
+            || j->answers[event] != (bytes[i / 8] >> i % 8 & 1))
+            return 0;
+    }
+    return 1;
+}
+
+/*
+ * Whether a read since the last write showed what a copy just accepted was to
+ * be checked against.  Its pattern is what the registers were before it; the
+ * scratchpad it leaves alone.
+ */
+static int judge_is_checked(const struct judge *j, size_t i)
+{
+    const struct device *const d = &j->bus.devices[i];
+    const uint64_t pattern = received(d, 24);
+    const unsigned first = pattern & OFFSET_MASK;
+    const unsigned last = pattern >> 16 & OFFSET_MASK;
+    const unsigned count = last < first ? 0 : last - first + 1;
+    uint8_t bytes[3 + SCRATCHPAD_BYTES];
+
+    for (unsigned k = 0; k < 3; k++)
+        bytes[k] = (uint8_t)(pattern >> 8 * k);
+    memcpy(bytes + 3, &d->body[SCRATCHPAD + first], count);
+    for (size_t k = j->useful[i]; k < j->count; k++)
+        if (j->reads[k].devices >> i & 1
+            && judge_showed(j, &j->reads[k], bytes, 3 + count))
+            return 1;
+    return 0;
+}
+
+/* A device took a memory command; so many were at it. */
+static void judge_command(struct judge *j, uint64_t command, size_t at_it)
+{
+    if (at_it > 1 && (command == 0x0F || command == 0x55))
+        judge_break(j, COMMAND_SHARED);
+}
+
+static void judge_copy(struct judge *j, size_t i)
+{
+    if (j->bus.devices[i].next == hold_low && !judge_is_checked(j, i))
+        judge_break(j, COPY_NOT_CHECKED);
+}
+
+/* Looks at what each device has completed with the event just carried out. */
+static void judge_look(struct judge *j, continuation *const *completed,
+                       size_t at_memory_command)
+{
+    uint64_t readers = 0;
+
+    for (size_t i = 0; i < j->bus.count; i++) {
+        const struct device *const d = &j->bus.devices[i];
+
+        if (completed[i] == d->memory_command)
+            judge_command(j, received(d, 8), at_memory_command);
+        if (completed[i] == sram_command && received(d, 8) == READ_SCRATCHPAD)
+            readers |= (uint64_t)1 << i;
+        if (completed[i] == scratchpad_address)
+            j->useful[i] = j->count;
+        if (completed[i] == copy_pattern)
+            judge_copy(j, i);
+    }
+    if (readers)
+        j->reads[j->count++] = (struct scratchpad_read){
+            j->event + 1, is_overdrive_slot(j->trace[j->event]), readers
+        };
+}
+
+static void judge_event(struct judge *j)
+{
+    continuation *completed[MAX_DEVICES];
+    const size_t at_memory_command = judge_at_memory_command(j);
+    uint8_t level;
+
+    judge_foresee(j, completed);
+    level = bus_event(&j->bus, (enum event)j->trace[j->event]);
+    if (level != j->answers[j->event] && j->differs == j->length)
+        j->differs = j->event;
+    judge_look(j, completed, at_memory_command);
+}
+
+static void judge_session(struct judge *j, uint8_t *image)
+{
+    bus_attach(&j->bus, image);
+    bus_attach_memory(&j->bus, image);
+    for (size_t i = 0; i < j->bus.count; i++)
+        j->useful[i] = MAX_READS;
+    for (j->event = 0; j->event < j->length; j->event++)
+        judge_event(j);
+    for (size_t i = 0; i < j->bus.count; i++)
+        store_partial_byte(&j->bus.devices[i]);
+}
+
+uint32_t second_judge(const uint8_t *image, size_t image_len,
+                      const uint8_t *trace, size_t trace_len,
+                      const uint8_t *answers, size_t answers_len,
+                      uint8_t *work, size_t work_len,
+                      uint64_t *rule, uint64_t *event)
+{
+    struct judge judge;
+    const uint32_t refusal =
+        refuse_run(image, image_len, trace, trace_len, answers_len);
+
+    if (refusal != 0)
+        return refusal;
+    if (answers_len != trace_len || work_len < image_len)
+        return 7;
+
+    judge.trace = trace;
+    judge.answers = answers;
+    judge.length = trace_len;
+    judge.count = 0;
+    judge.differs = trace_len;
+    judge.rule = ACCEPTED;
+    judge.broken = 0;
+    memcpy(work, image, image_len);
+    judge_session(&judge, work);
+    if (judge.differs < trace_len) {
+        judge.rule = ANSWERS_DIFFER;
+        judge.broken = judge.differs;
+    }
+    *rule = judge.rule;
+    *event = judge.broken;
     return 0;
 }
 

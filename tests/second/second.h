@@ -1,6 +1,7 @@
 /*
  * A 1-Wire bus with up to 64 devices (DS1992, DS1993, DS1996, DS1982),
- * simulated slot by slot, and a master that searches it.
+ * simulated slot by slot, a judge of recorded sessions, and a master that
+ * searches the bus.
  *
  * Nothing here allocates or keeps state between calls.  Buffers that belong to
  * one call must not overlap.  A pointer whose length is 0 is not used.
@@ -58,6 +59,36 @@ uint32_t second_looked(const uint8_t *image, size_t image_len,
                        uint8_t *looked, size_t looked_len);
 
 enum { SECOND_NO_SLOT = 255 };
+
+/*
+ * Judges a recorded session: the trace that a program sent, and the answers it
+ * recorded.  A session is careful where
+ *   1  every answer is the level of that event in a run of the trace;
+ *   2  no memory command 0Fh or 55h completes while more than one device is at
+ *      the memory command;
+ *   3  a device accepts a copy only after a write scratchpad to it, complete
+ *      up to the 16th address bit, and since that bit of the last one some read
+ *      scratchpad of this device showed on the line TA1, TA2 and E/S and the
+ *      bytes from T4:T0 through the ending offset, as they are just before the
+ *      copy is accepted.
+ *
+ * rule becomes 0 for a careful session.  Else it is 1, and event the first
+ * answer that differs; or, where none does, rule is 2 or 3, and event the last
+ * bit of the command or of the pattern that is the first to break either.
+ * event is 0 where rule is.
+ *
+ * The image is only read.  Whatever the verdict, work takes the image as the
+ * whole trace leaves it; what is past image_len stays as it was.
+ *
+ * Returns 0, or a refusal with nothing changed: 1 to 5, 11 and 6 as above, 7
+ * when there are not as many answers as events or work is shorter than the
+ * image.
+ */
+uint32_t second_judge(const uint8_t *image, size_t image_len,
+                      const uint8_t *trace, size_t trace_len,
+                      const uint8_t *answers, size_t answers_len,
+                      uint8_t *work, size_t work_len,
+                      uint64_t *rule, uint64_t *event);
 
 /*
  * Searches the n devices of an image: a fresh master is stepped against the

@@ -1752,6 +1752,532 @@ static void refusals_together(struct report *r, struct bench *b)
 }
 
 /* ------------------------------------------------------------------ */
+/* Judging a recorded session                                          */
+
+enum { CAREFUL, RULE_1, RULE_2, RULE_3 };
+
+struct verdict {
+    uint32_t number;
+    uint64_t rule, event;
+};
+
+/* The image is only read, and work is taken to its end and no further. */
+static struct verdict judge_answers(struct report *r, const struct script *s,
+                                    const struct image *im, size_t answers)
+{
+    static struct image given, work;
+    struct verdict v = { 99, UNWRITTEN, UNWRITTEN };
+
+    given = *im;
+    memset(work.bytes, 0xEE, ROOM);
+    v.number = second_judge(given.bytes, given.length, s->trace, s->length,
+                            s->answers, answers, work.bytes, given.length + 5,
+                            &v.rule, &v.event);
+    CHECK(r, memcmp(given.bytes, im->bytes, ROOM) == 0);
+    if (v.number != 0) {
+        CHECK(r, v.rule == UNWRITTEN && v.event == UNWRITTEN);
+        CHECK(r, work.bytes[0] == 0xEE);
+        return v;
+    }
+    CHECK(r, work.bytes[given.length] == 0xEE);
+    second_run(given.bytes, given.length, s->trace, s->length,
+               (uint8_t[EVENTS]){ 0 }, EVENTS, &(uint64_t){ 0 });
+    CHECK(r, memcmp(given.bytes, work.bytes, given.length) == 0);
+    return v;
+}
+
+/* Records the answers of the bus itself; the image stays as it was. */
+static void record(struct report *r, struct script *s, const struct image *im)
+{
+    static struct image copy;
+
+    copy = *im;
+    CHECK(r, play(s, &copy) == 0);
+}
+
+/* Judges a session with the answers of the bus itself. */
+static void expect(struct report *r, struct bench *b, uint64_t rule,
+                   uint64_t event)
+{
+    struct verdict v;
+
+    record(r, &b->script, &b->image);
+    v = judge_answers(r, &b->script, &b->image, b->script.length);
+    CHECK(r, v.number == 0);
+    CHECK(r, v.rule == rule);
+    CHECK(r, v.event == (rule == CAREFUL ? 0 : event));
+}
+
+/* Transactions of device i by Match ROM; the last gives its last event. */
+static void write_to(struct bench *b, size_t i, uint8_t target,
+                     const uint8_t *bytes, size_t count)
+{
+    address_one(&b->script, at(&b->image, i, 0));
+    SEND(&b->script, 0x0F, target, 0x00);
+    send(&b->script, bytes, count);
+}
+
+static size_t read_back(struct bench *b, size_t i, size_t slots_read)
+{
+    address_one(&b->script, at(&b->image, i, 0));
+    SEND(&b->script, 0xAA);
+    return slots(&b->script, slots_read);
+}
+
+static size_t copy_to(struct bench *b, size_t i, uint8_t target, uint8_t es)
+{
+    address_one(&b->script, at(&b->image, i, 0));
+    SEND(&b->script, 0x55, target, 0x00, es);
+    slots(&b->script, 8);
+    return b->script.length - 9;
+}
+
+static const uint8_t two[] = { 0xC3, 0x5A };
+
+/*
+ * A device whose registers and scratchpad are from the start as a write of two
+ * bytes to 0026h leaves them, beside one of another kind.
+ */
+static void bench_to_judge(struct bench *b, uint8_t family)
+{
+    const uint8_t families[] = { family, 0x09 };
+
+    make_image(&b->image, families, 2);
+    memcpy(at(&b->image, 0, TA1), "\x26\x00\x07", 3);
+    memcpy(at(&b->image, 0, PAD + 6), two, 2);
+    restart(&b->script);
+}
+
+static void careful_sessions(struct report *r, struct bench *b)
+{
+    title("judge: written, read back and copied; other sessions");
+    for (unsigned i = 0; i < 2; i++) {
+        bench_to_judge(b, i ? 0x06 : 0x08);
+        expect(r, b, CAREFUL, 0);
+        write_to(b, 0, 0x26, two, 2);
+        expect(r, b, CAREFUL, 0);
+        read_back(b, 0, 40);
+        expect(r, b, CAREFUL, 0);
+        copy_to(b, 0, 0x26, 0x07);
+        expect(r, b, CAREFUL, 0);
+        read_back(b, 0, 40); /* shows AA */
+        copy_to(b, 0, 0x26, 0x87);
+        expect(r, b, CAREFUL, 0);
+        address_one(&b->script, at(&b->image, 1, 0));
+        SEND(&b->script, 0x0F, 0x10, 0x00, 0x00, 0xFF, 0xFF, 0xFF);
+        expect(r, b, CAREFUL, 0);
+    }
+    make_image(&b->image, NULL, 0);
+    expect(r, b, CAREFUL, 0);
+    restart(&b->script);
+    expect(r, b, CAREFUL, 0);
+}
+
+static void unlike_answers(struct report *r, struct bench *b)
+{
+    struct script *const s = &b->script;
+    struct verdict v;
+    size_t shared;
+
+    title("judge: rule A, the first answer that differs, before B and C");
+    bench_to_judge(b, 0x06);
+    address_all(s);
+    SEND(s, 0x0F, 0x26, 0x00, 0xC3, 0x5A);
+    shared = 16;
+    copy_to(b, 0, 0x26, 0x07);
+    expect(r, b, RULE_2, shared);
+    for (size_t i = 0; i < s->length; i++)
+        for (unsigned change = 1; change < 256; change += i < 20 ? 1 : 127) {
+            record(r, s, &b->image);
+            s->answers[i] ^= (uint8_t)change;
+            s->answers[s->length - 1] ^= 1;
+            v = judge_answers(r, s, &b->image, s->length);
+            if (i == s->length - 1 && change == 1)
+                CHECK(r, v.rule == RULE_2 && v.event == shared);
+            else
+                CHECK(r, v.rule == RULE_1 && v.event == i);
+        }
+}
+
+/* Every command byte with two at the memory command, none of them flat. */
+static void shared_commands(struct report *r, struct bench *b)
+{
+    static const uint8_t kinds[] = { 0x08, 0x06, 0x09 };
+
+    title("judge: rule B, 0Fh and 55h with more than one at the command");
+    for (unsigned pair = 0; pair < 9; pair++)
+        for (unsigned flat = 0; flat < 4; flat++)
+            for (unsigned command = 0; command < 256; command++) {
+                const uint8_t both[] = { kinds[pair % 3], kinds[pair / 3] };
+                const int shared = command == 0x0F || command == 0x55;
+
+                make_image(&b->image, both, 2);
+                for (size_t i = 0; i < 2; i++)
+                    if (flat >> i & 1 && both[i] != 0x09)
+                        flatten(&b->image, i);
+                restart(&b->script);
+                address_all(&b->script);
+                bits(&b->script, command, 7);
+                expect(r, b, CAREFUL, 0);
+                bits(&b->script, command >> 7, 1);
+                expect(r, b,
+                       shared && !b->image.bytes[3] && !b->image.bytes[7]
+                           ? RULE_2
+                           : CAREFUL,
+                       16);
+                restart(&b->script);
+                address_one(&b->script, at(&b->image, 1, 0));
+                SEND(&b->script, (uint8_t)command);
+                expect(r, b, CAREFUL, 0);
+            }
+}
+
+static void unchecked_copies(struct report *r, struct bench *b)
+{
+    size_t copied;
+
+    title("judge: rule C, no write, no read, a read before the write");
+    bench_to_judge(b, 0x08);
+    expect(r, b, RULE_3, copied = copy_to(b, 0, 0x26, 0x07));
+    copy_to(b, 0, 0x26, 0x87);
+    expect(r, b, RULE_3, copied);
+
+    bench_to_judge(b, 0x08);
+    read_back(b, 0, 40);
+    expect(r, b, RULE_3, copied = copy_to(b, 0, 0x26, 0x07));
+
+    bench_to_judge(b, 0x08);
+    read_back(b, 0, 40);
+    write_to(b, 0, 0x26, two, 2);
+    expect(r, b, RULE_3, copied = copy_to(b, 0, 0x26, 0x07));
+
+    title("judge: rule C, a second copy, a target that was moved");
+    bench_to_judge(b, 0x08);
+    write_to(b, 0, 0x26, two, 2);
+    read_back(b, 0, 40);
+    copy_to(b, 0, 0x26, 0x07);
+    copy_to(b, 0, 0x26, 0x07); /* does not match: is not accepted */
+    expect(r, b, CAREFUL, 0);
+    expect(r, b, RULE_3, copied = copy_to(b, 0, 0x26, 0x87));
+
+    for (uint8_t target = 0; target < 128; target++) {
+        bench_to_judge(b, 0x06);
+        write_to(b, 0, 0x26, two, 2);
+        read_back(b, 0, 40);
+        address_one(&b->script, at(&b->image, 0, 0));
+        SEND(&b->script, 0xF0, target, 0x00);
+        slots(&b->script, 9);
+        copied = copy_to(b, 0, target, 0x07);
+        expect(r, b, target == 0x26 ? CAREFUL : RULE_3, copied);
+    }
+}
+
+/* Reads of every length, and a 0 of the master in every slot of a read. */
+static void reads_cut_and_disturbed(struct report *r, struct bench *b)
+{
+    size_t place, copied;
+
+    title("judge: rule C, a read that is cut, one that the master disturbs");
+    for (size_t count = 0; count <= 48; count++)
+        for (unsigned good = 0; good < 3; good++) {
+            bench_to_judge(b, 0x06);
+            write_to(b, 0, 0x26, two, 2);
+            if (good == 1)
+                read_back(b, 0, 40);
+            read_back(b, 0, count);
+            if (good == 2)
+                read_back(b, 0, 40);
+            copied = copy_to(b, 0, 0x26, 0x07);
+            expect(r, b, good || count >= 40 ? CAREFUL : RULE_3, copied);
+        }
+    for (size_t slot = 0; slot < 48; slot++) {
+        int harm;
+
+        bench_to_judge(b, 0x06);
+        write_to(b, 0, 0x26, two, 2);
+        place = read_back(b, 0, 48);
+        copied = copy_to(b, 0, 0x26, 0x07);
+        record(r, &b->script, &b->image);
+        harm = slot < 40 && b->script.answers[place + slot] == 1;
+        b->script.trace[place + slot] = 0;
+        expect(r, b, harm ? RULE_3 : CAREFUL, copied);
+    }
+}
+
+/* E/S after so many bits of an address 0026h and of data, and a reset. */
+static uint8_t es_after(unsigned count)
+{
+    const unsigned data = count - 16;
+
+    return (uint8_t)(data == 0 ? 0x06
+                               : (0x06 + (data - 1) / 8)
+                                     | (data % 8 ? 0x20 : 0x00));
+}
+
+/* So many bits of another write of the same bytes come before the copy. */
+static void writes_cut(struct report *r, struct bench *b)
+{
+    title("judge: rule C, a write is one from its 16th address bit on");
+    for (unsigned count = 0; count <= 32; count++)
+        for (unsigned again = 0; again < 2; again++) {
+            bench_to_judge(b, 0x06);
+            write_to(b, 0, 0x26, two, 2);
+            read_back(b, 0, 40);
+            address_one(&b->script, at(&b->image, 0, 0));
+            SEND(&b->script, 0x0F);
+            bits(&b->script, 0x5AC30026, count);
+            if (again)
+                read_back(b, 0, 40);
+            expect(r, b, again || count < 16 ? CAREFUL : RULE_3,
+                   copy_to(b, 0, 0x26, count < 16 ? 0x07 : es_after(count)));
+        }
+}
+
+/*
+ * No bytes lie between: the registers are enough.  A target past memory still
+ * needs its bytes.
+ */
+static void copies_of_nothing(struct report *r, struct bench *b)
+{
+    struct script *const s = &b->script;
+
+    title("judge: rule C, no bytes between, and a target past memory");
+    for (unsigned count = 23; count <= 24; count++) {
+        bench_to_judge(b, 0x08);
+        write_to(b, 0, 0x26, two, 2);
+        address_one(s, at(&b->image, 0, 0));
+        SEND(s, 0xF0, 0x48, 0x00);
+        read_back(b, 0, count);
+        expect(r, b, count == 24 ? CAREFUL : RULE_3,
+               copy_to(b, 0, 0x48, 0x07));
+    }
+    for (unsigned count = 24; count <= 32; count += 8) {
+        bench_to_judge(b, 0x08);
+        write_to(b, 0, 0x86, two, 1);
+        read_back(b, 0, count);
+        expect(r, b, count == 32 ? CAREFUL : RULE_3,
+               copy_to(b, 0, 0x86, 0x06));
+    }
+}
+
+/* A write, a read or a copy of one device is none of the other's. */
+static void devices_apart(struct report *r, struct bench *b)
+{
+    struct script *const s = &b->script;
+    size_t copied;
+
+    title("judge: rule C, each device by itself, and two that read at once");
+    for (unsigned other = 0; other < 2; other++) {
+        make_image(&b->image, (const uint8_t[]){ 0x06, 0x06 }, 2);
+        restart(s);
+        write_to(b, 0, 0x26, two, 2);
+        write_to(b, 1, 0x26, two, 2);
+        read_back(b, other, 40);
+        copied = copy_to(b, 0, 0x26, 0x07);
+        expect(r, b, other ? RULE_3 : CAREFUL, copied);
+    }
+    for (uint8_t byte = 0; byte < 255; byte++) {
+        const uint8_t mine = 0xF0;
+
+        make_image(&b->image, (const uint8_t[]){ 0x08, 0x06 }, 2);
+        restart(s);
+        write_to(b, 0, 0x41, &mine, 1);
+        write_to(b, 1, 0x41, &byte, 1);
+        address_all(s);
+        SEND(s, 0xAA);
+        slots(s, 32);
+        copied = copy_to(b, 0, 0x41, 0x01);
+        expect(r, b, (mine & byte) == mine ? CAREFUL : RULE_3, copied);
+    }
+}
+
+/* The first of B and C, whichever it is. */
+static void rules_in_order(struct report *r, struct bench *b)
+{
+    struct script *const s = &b->script;
+    size_t copied, shared;
+
+    title("judge: the earlier of B and C");
+    bench_to_judge(b, 0x06);
+    copied = copy_to(b, 0, 0x26, 0x07);
+    address_all(s);
+    SEND(s, 0x55);
+    expect(r, b, RULE_3, copied);
+    bench_to_judge(b, 0x06);
+    address_all(s);
+    SEND(s, 0x55, 0x26, 0x00, 0x07);
+    shared = 16;
+    expect(r, b, RULE_2, shared);
+}
+
+/* Puts an event into a script, before the one at a place. */
+static void put_in(struct script *s, size_t place, uint8_t e)
+{
+    memmove(s->trace + place + 1, s->trace + place, s->length - place);
+    s->trace[place] = e;
+    s->length++;
+}
+
+/* To the memory command by Skip ROM at a speed; gives the next place. */
+static size_t address_at(struct script *s, int overdrive)
+{
+    if (overdrive)
+        return overdrive_all(s);
+    address_all(s);
+    return s->length;
+}
+
+/* A write, a read and a copy, each at a speed; gives the last pattern bit. */
+static size_t change_at(struct script *s, unsigned speeds, size_t *read)
+{
+    size_t from = address_at(s, speeds & 1);
+
+    SEND(s, 0x0F, 0x26, 0x00, 0xC3, 0x5A);
+    if (speeds & 1)
+        hurry(s, from);
+    from = address_at(s, speeds >> 1 & 1);
+    SEND(s, 0xAA);
+    *read = slots(s, 40);
+    if (speeds & 2)
+        hurry(s, from);
+    from = address_at(s, speeds >> 2 & 1);
+    SEND(s, 0x55, 0x26, 0x00, 0x07);
+    if (speeds & 4)
+        hurry(s, from);
+    return s->length - 1;
+}
+
+/* Every transaction at either speed, and an event too many in the read. */
+static void judged_at_both_speeds(struct report *r, struct bench *b)
+{
+    struct script *const s = &b->script;
+    size_t read, last;
+
+    title("judge: overdrive, a careful session, and a read that is cut by it");
+    one_device(&b->image, 0x0C);
+    for (unsigned speeds = 0; speeds < 8; speeds++)
+        for (size_t slot = 0; slot <= 41; slot++)
+            for (uint8_t e = 0; e < 7; e++) {
+                const int fast = speeds >> 1 & 1;
+                const int heard = fast || e < 4;
+
+                if (e == 3 || e == (fast ? 4 : 0) || e == (fast ? 5 : 1))
+                    continue;
+                restart(s);
+                last = change_at(s, speeds, &read);
+                if (slot < 41)
+                    put_in(s, read + slot, e);
+                expect(r, b, slot < 40 && heard ? RULE_3 : CAREFUL,
+                       last + 1);
+            }
+}
+
+static void overdrive_rules(struct report *r, struct bench *b)
+{
+    static const uint8_t pairs[][2] = { { 0x0C, 0x0C }, { 0x0C, 0x06 },
+                                        { 0x09, 0x0C } };
+    struct script *const s = &b->script;
+    size_t from, last;
+
+    title("judge: overdrive, rules B and C");
+    for (unsigned pair = 0; pair < 3; pair++)
+        for (unsigned command = 0; command < 256; command++) {
+            const int shared = command == 0x0F || command == 0x55;
+
+            make_image(&b->image, pairs[pair], 2);
+            restart(s);
+            from = overdrive_all(s);
+            SEND(s, (uint8_t)command);
+            hurry(s, from);
+            expect(r, b, shared && pair == 0 ? RULE_2 : CAREFUL, 16);
+            if (pair > 0)
+                continue;
+            from = s->length;
+            event(s, 2);
+            SEND(s, 0xCC, 0x55);
+            hurry(s, from);
+            expect(r, b, RULE_2, shared ? 16 : 16 + 17);
+            flatten(&b->image, command % 2);
+            expect(r, b, CAREFUL, 0);
+        }
+    bench_to_judge(b, 0x0C);
+    from = overdrive_all(s);
+    SEND(s, 0x55, 0x26, 0x00, 0x07);
+    hurry(s, from);
+    last = s->length - 1;
+    expect(r, b, RULE_3, last);
+}
+
+static void judge_refusals(struct report *r, struct bench *b)
+{
+    struct script *const s = &b->script;
+    static struct image work;
+    uint64_t rule = 5, at_event = 6;
+
+    title("judge: refusals, answers of another length, work too short");
+    make_image(&b->image, four, 4);
+    restart(s);
+    address_all(s);
+    record(r, s, &b->image);
+    for (size_t i = 0; i < 12; i++)
+        CHECK(r, judge_answers(r, s, &b->image, i).number
+                     == (i == s->length ? 0u : 7u));
+    CHECK(r, b->image.length == 1032);
+    for (size_t room = 0; room < 1032; room++)
+        CHECK(r, second_judge(b->image.bytes, 1032, s->trace, 9, s->answers, 9,
+                              work.bytes, room, &rule, &at_event) == 7);
+    CHECK(r, rule == 5 && at_event == 6 && work.bytes[0] == 0);
+    CHECK(r, second_judge(b->image.bytes, 1032, s->trace, 9, s->answers, 9,
+                          work.bytes, 1032, &rule, &at_event) == 0);
+    CHECK(r, rule == 0 && at_event == 0);
+    for (unsigned causes = 1; causes < 256; causes++) {
+        restart(s);
+        address_all(s);
+        if (causes & 16)
+            s->trace[3] = 7;
+        if (causes & 32)
+            s->trace[1] = 3;
+        if (causes & 128)
+            s->trace[0] = 0;
+        put_causes(&b->image, causes);
+        CHECK(r, judge_answers(r, s, &b->image, causes & 64 ? 10 : 9).number
+                     == first_of(causes));
+    }
+}
+
+/* The trace of a search with what it saw. */
+static void judge_search(struct report *r, struct bench *b)
+{
+    struct script *const s = &b->script;
+    uint64_t passes, resets, count;
+    uint8_t codes[32];
+
+    title("judge: a search is careful");
+    make_image(&b->image, four, 4);
+    CHECK(r, second_search(b->image.bytes, b->image.length, codes, 32,
+                           s->trace, EVENTS, &passes, &resets, &count) == 0);
+    s->length = 804;
+    expect(r, b, CAREFUL, 0);
+}
+
+static void judging(struct report *r, struct bench *b)
+{
+    careful_sessions(r, b);
+    unlike_answers(r, b);
+    shared_commands(r, b);
+    unchecked_copies(r, b);
+    reads_cut_and_disturbed(r, b);
+    writes_cut(r, b);
+    copies_of_nothing(r, b);
+    devices_apart(r, b);
+    rules_in_order(r, b);
+    judged_at_both_speeds(r, b);
+    overdrive_rules(r, b);
+    judge_refusals(r, b);
+    judge_search(r, b);
+}
+
+/* ------------------------------------------------------------------ */
 /* Master and search                                                   */
 
 static unsigned code_bit(const uint8_t *code, unsigned i)
@@ -2016,6 +2542,7 @@ int main(void)
     refusals_5_6_7(&report, &bench);
     refusal_11(&report, &bench);
     refusals_together(&report, &bench);
+    judging(&report, &bench);
     master_end_none_and_8(&report, &buffers);
     master_end_9(&report, &buffers);
     master_end_10(&report, &buffers);

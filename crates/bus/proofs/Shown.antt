@@ -275,7 +275,7 @@ module _ (image : List ℕ) (known : Known image) where
 
     module _ (ds : List Device) (stand : Stand image 0 ds) (all : length ds ≡ countOf image) (ranged : AllIn ds) where
       -- the turns of the first i devices
-      turns-are : (byte : ℕ) (level : Bool) (i : ℕ) → i ≤ length ds → turnsUpTo byte level i (busStateOf ds) ≡ busStateOf (map (nextDevice (eventOf byte) level) (take i ds) ++ drop i ds)
+      pub turns-are : (byte : ℕ) (level : Bool) (i : ℕ) → i ≤ length ds → turnsUpTo byte level i (busStateOf ds) ≡ busStateOf (map (nextDevice (eventOf byte) level) (take i ds) ++ drop i ds)
       unfolding turnsUpTo
       turns-are byte level zero h = refl
       turns-are byte level (suc i) h =

@@ -38,10 +38,10 @@ pub enum Event {
 }
 
 // A place is a device's kind and the part of the image that is its body.
-struct Place {
-    kind: Kind,
-    start: usize,
-    end: usize,
+pub struct Place {
+    pub kind: Kind,
+    pub start: usize,
+    pub end: usize,
 }
 
 // A scan is the level of an event, and how many devices count as looked at for it: in a slot in which the master sends
@@ -124,7 +124,7 @@ fn leaves_high(byte: u8, state: LineState) -> bool
 
 // The place of device i is found from its entry alone, so that the cost does not depend on i. A device that the image
 // does not have, or has no room for, has an empty body and no kind.
-fn place_of(image: &[u8], i: usize) -> Place
+pub fn place_of(image: &[u8], i: usize) -> Place
     ensures { λ r. ⌜ r ≡ placeIn (now (image .entry)) i ⌝ }
 {
     if i < bits::wide(image::count(image)) {

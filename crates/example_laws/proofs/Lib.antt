@@ -1,3 +1,4 @@
 mod Rows
 mod SkipRom
 pub mod Examples
+pub mod Judged

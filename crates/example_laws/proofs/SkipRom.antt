@@ -28,7 +28,7 @@ use Rattle.bus.specs.Run.{waitingDevices, tableOfContents, bodiesOf, statesOf, 
 use Rattle.bus.proofs.Laws.{not-refused}
 use Rattle.bus.proofs.Shown.{Stand, waiting-stands, waiting-all, waiting-image, waiting-states}
 use Rattle.search_laws.proofs.Devices.{inState, Sized, active, device, standsBy, stands, addressedState, all-active, reset-all, waiting-unwritten, command-level, command-after, command-done}
-use Rattle.search_laws.proofs.Devices.{command-copied, reset-copied}
+use Rattle.search_laws.proofs.Devices.{command-idle, reset-idle}
 use Rattle.example_laws.specs.Table.{skipRom, skipAnswers}
 use Rattle.example_laws.specs.Examples.{presenceOf, addressedFrom}
 
@@ -139,7 +139,7 @@ module _ (ds : List Device) (fit : Sized ds) where
       → copiedInTrace (byte ∷ trace) (all (commanded levels) ds) ≡ copiedInTrace trace (all (commanded (levels ++ sent ∷ [])) ds)
   copied-bit levels sent byte trace e h =
       copied-slot (λ kind body. commanded levels) (λ kind body. commanded (levels ++ sent ∷ [])) sent byte trace e (command-level levels sent (map active ds) (omega arith) fits)
-      (command-after levels sent (map active ds) h fits) (command-copied levels sent (map active ds))
+      (command-after levels sent (map active ds) h fits) (command-idle levels sent (map active ds) .0)
 
   command-copies : copiedInTrace (bitsFrom 0) (all resetState ds) ≡ 0
   unfolding eventOf romCommand commandSpeed shiftedOver spelled levelByte copiedInTrace
@@ -155,7 +155,7 @@ module _ (ds : List Device) (fit : Sized ds) where
       ∙ copied-bit (three ++ true ∷ false ∷ false ∷ []) true 1 (bitsFrom 7) refl (lit< tt)
       ∙ copied-slot (λ kind body. commanded seven) addressedState true 1 (bitsFrom 8) refl
       (command-level seven true (map active ds) (lit< tt) fits) (command-done seven true (map active ds) refl fits)
-      (command-copied seven true (map active ds))
+      (command-idle seven true (map active ds) .0)
 
   -- the reset before them, of devices that wait
   reset-run : (trace : List ℕ) → runTrace (2 ∷ trace) (all waitingState ds) ≡ withAnswer (levelOf Reset (all waitingState ds)) (runTrace trace (all resetState ds))
@@ -179,7 +179,7 @@ module _ (ds : List Device) (fit : Sized ds) where
       ∙ ap (λ (es : List Device). stands resetState (map active es)) (all-active ds)
       ∙ all-stands (λ kind body. resetState) ds in
       ap (λ (es : List Device). copiedByAll Reset level (all waitingState ds) + copiedInTrace (bitsFrom 0) es) after
-      ∙ omega (arith, reset-copied level (all waitingState ds), command-copies)
+      ∙ omega (arith, reset-idle level (all waitingState ds) .0, command-copies)
 
   skip-run : runTrace skipRom (all waitingState ds)
       ≡ record { answers = skipAnswers (levelByte (levelOf Reset (all waitingState ds))); devices = allBy addressedState ds }

@@ -4,3 +4,4 @@ pub mod Row
 pub mod Overdrive
 pub mod Table
 pub mod Examples
+pub mod Judged

@@ -144,7 +144,7 @@ unfolding masterAfterLevel masterInRange stageInRange stepByStage masterAfterRes
 drives-none image e = record {
   master = masterOf (Ended Done) 0 noBits None noBits None;
   devices = [];
-  driven = rw e (on refl refl refl refl refl refl refl here);
+  driven = rw e (on refl refl refl refl refl (refl, tt) refl here);
   ended = refl;
 }
 

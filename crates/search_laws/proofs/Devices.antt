@@ -23,7 +23,8 @@ use Rattle.device.specs.declared.LineState.{LineState}
 use Rattle.device.specs.Device.{lineState, regularState, waitingState, resetState, lineStateInRange, orWaiting, sendsOf, stateAfterSlot, bodyAfterReset}
 use Rattle.device.proofs.Laws.{waiting-sends, waiting-step, waiting-copies, rom-write, rom-copies, rom-reset, addressed-reset}
 use Rattle.device.proofs.Search.{searching, search-sends-bit, search-after-bit, search-sends-complement, search-after-complement, search-sends-direction, search-after-direction, commanded, command-sends, command-goes-on, command-ends}
-use Rattle.bus.specs.declared.Event.the-variants.{Slot, Reset}
+use Rattle.bus.specs.declared.Event.{Event}
+use Rattle.bus.specs.declared.Event.the-variants.{Slot, Reset, Pulse, OverdriveSlot, OverdriveReset}
 use Rattle.bus.specs.Bus.{Device, deviceWith, takenState, hears, answersLow, pullsLow, someLow, masterHigh, levelOf, heardState, heardBody, nextState, nextBody, nextDevice}
 use Rattle.bus.specs.Bus.{heardCopied, copiedIn, copiedByAll}
 use Rattle.search_laws.proofs.Codes.{Code, branch}
@@ -74,6 +75,22 @@ rests k m (inactive d ∷ ms) = rests k m ms
 abbrev InRom : LineState → Type 0
 InRom s = (r : RomStage) × (s .transfer .stage ≡ Rom r) × (s .overdrive ≡ false)
 
+-- Devices that stand aside in an event: in a slot each of them is in the ROM stage.
+abbrev pub AllRom : List Device → Type 0
+AllRom [] = Unit {0}
+AllRom (d ∷ ds) = ((r : RomStage) × (d .state .transfer .stage ≡ Rom r)) × AllRom ds
+
+abbrev pub Aside : Event → List Device → Type 0
+Aside (Slot sent) ds = AllRom ds
+Aside Reset ds = Unit {0}
+Aside Pulse ds = Unit {0}
+Aside (OverdriveSlot sent) ds = AllRom ds
+Aside OverdriveReset ds = Unit {0}
+
+-- and no byte is copied in it
+abbrev pub Idle : Event → Bool → List Device → Type 0
+Idle event level ds = (copiedByAll event level ds ≡ 0) × Aside event ds
+
 -- a device at regular speed hears a regular slot
 regular-hears : (s : LineState) (sent : Bool) (d : Device) → s .overdrive ≡ false
     → hears (Slot sent) (takenState (inState s d)) ≡ true
@@ -123,11 +140,24 @@ rom-copied s sent level (active d ∷ ms) r =
 rom-copied s sent level (inactive d ∷ ms) r =
     omega (arith, one-copied waitingState sent level d (Waiting, refl, refl), rom-copied s sent level ms r)
 
--- nor by a reset
-pub reset-copied : (level : Bool) (ds : List Device) → copiedByAll Reset level ds ≡ 0
+-- every device is in the ROM stage
+all-rom : (s : Kind → List ℕ → LineState) (ms : List Member) → ((kind : Kind) (body : List ℕ) → InRom (s kind body)) → AllRom (standsBy s ms)
+all-rom s [] r = tt
+all-rom s (active d ∷ ms) r = ((r (d .kind) (d .body) .0, r (d .kind) (d .body) .1), all-rom s ms r)
+all-rom s (inactive d ∷ ms) r = ((Waiting, refl), all-rom s ms r)
+
+rom-idle : (s : Kind → List ℕ → LineState) (sent level : Bool) (ms : List Member) → ((kind : Kind) (body : List ℕ) → InRom (s kind body))
+    → Idle (Slot sent) level (standsBy s ms)
+rom-idle s sent level ms r = (rom-copied s sent level ms r, all-rom s ms r)
+
+-- no byte is copied by a reset either
+none-copied : (level : Bool) (ds : List Device) → copiedByAll Reset level ds ≡ 0
 unfolding copiedByAll copiedIn heardCopied hears
-reset-copied level [] = refl
-reset-copied level (d ∷ ds) = omega (arith, reset-copied level ds)
+none-copied level [] = refl
+none-copied level (d ∷ ds) = omega (arith, none-copied level ds)
+
+pub reset-idle : (level : Bool) (ds : List Device) → Idle Reset level ds
+reset-idle level ds = (none-copied level ds, tt)
 
 -- the level, where no device that takes part sends a 0
 or-false : (heard a b : Bool) → a ≡ true → b ≡ false → (heard && not a || b) ≡ false
@@ -202,16 +232,16 @@ module _ (k m : ℕ) (low : k < 64) where
   unfolding levelOf masterHigh
   complements-read a ms z = complements-low a ms z
 
-  -- no byte is copied in any of the three slots
-  pub bits-copied : (a : Bool) (ms : List Member) → copiedByAll (Slot true) a (standsBy (searches k []) ms) ≡ 0
-  bits-copied a ms = rom-copied (searches k []) true a ms bit-in-rom
+  -- the devices stand aside in each of the three slots
+  pub bits-idle : (a : Bool) (ms : List Member) → Idle (Slot true) a (standsBy (searches k []) ms)
+  bits-idle a ms = rom-idle (searches k []) true a ms bit-in-rom
 
-  pub complements-copied : (a b : Bool) (ms : List Member) → copiedByAll (Slot true) b (standsBy (searches k (a ∷ [])) ms) ≡ 0
-  complements-copied a b ms = rom-copied (searches k (a ∷ [])) true b ms (complement-in-rom a)
+  pub complements-idle : (a b : Bool) (ms : List Member) → Idle (Slot true) b (standsBy (searches k (a ∷ [])) ms)
+  complements-idle a b ms = rom-idle (searches k (a ∷ [])) true b ms (complement-in-rom a)
 
-  pub direction-copied : (a b sent : Bool) (ms : List Member)
-      → copiedByAll (Slot sent) sent (standsBy (searches k (a ∷ b ∷ [])) ms) ≡ 0
-  direction-copied a b sent ms = rom-copied (searches k (a ∷ b ∷ [])) sent sent ms (direction-in-rom a b)
+  pub direction-idle : (a b sent : Bool) (ms : List Member)
+      → Idle (Slot sent) sent (standsBy (searches k (a ∷ b ∷ [])) ms)
+  direction-idle a b sent ms = rom-idle (searches k (a ∷ b ∷ [])) sent sent ms (direction-in-rom a b)
 
   pub bits-after : (a : Bool) (ms : List Member) → Sized (map device ms)
       → map (nextDevice (Slot true) a) (standsBy (searches k []) ms) ≡ standsBy (searches k (a ∷ [])) ms
@@ -346,10 +376,10 @@ command-stage (level ∷ levels) t e = command-stage levels _ e
 command-in-rom : (levels : List Bool) → InRom (commanded levels)
 command-in-rom levels = (Command, command-stage levels _ refl, refl)
 
--- no byte is copied in it
-pub command-copied : (levels : List Bool) (sent : Bool) (ms : List Member)
-    → copiedByAll (Slot sent) sent (stands (commanded levels) ms) ≡ 0
-command-copied levels sent ms = rom-copied (λ kind body. commanded levels) sent sent ms (λ kind body. command-in-rom levels)
+-- the devices stand aside in it
+pub command-idle : (levels : List Bool) (sent : Bool) (ms : List Member)
+    → Idle (Slot sent) sent (stands (commanded levels) ms)
+command-idle levels sent ms = rom-idle (λ kind body. commanded levels) sent sent ms (λ kind body. command-in-rom levels)
 
 -- up to the seventh
 pub command-after : (levels : List Bool) (sent : Bool) (ms : List Member) → length levels < 7 → Sized (map device ms)

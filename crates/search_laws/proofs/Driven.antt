@@ -1,7 +1,7 @@
 -- A master stepped by the levels of devices on the bus, event by event, and what follows of the search, of the run of its trace, and of a
 -- master that is given the run's answers. Assumes nothing.
 use Prim.Native.Nat.{ℕ, zero, suc, _<_, _≤_}
-use mathlib.Core.Path.{_≡_, refl, sym, ap, _∙_}
+use mathlib.Core.Path.{_≡_, refl, sym, ap, subst, _∙_}
 use mathlib.Core.Bool.{Bool, true, false, not}
 use mathlib.Core.List.{List, [], _∷_, _++_, map, append-assoc}
 use native.Mathlib.Nat.{le-of-suc-le-suc, not-suc-le-zero, suc-inj}
@@ -12,17 +12,17 @@ use Rattle.bits.specs.Bit.{levelByte}
 use Rattle.master.specs.declared.Master.{Master}
 use Rattle.master.specs.Master.{AnswerValue, event, end, masterAnswer, masterAfterLevel, nextMaster}
 use Rattle.master.specs.Drive.{masterAfterLevels, eventThen, eventsFrom, codeCompleted, codesFrom}
-use Rattle.bus.specs.Bus.{Device, eventOf, levelOf, nextDevice, busStepAt, busStep, withAnswer, runTrace}
-use Rattle.bus.specs.Bus.{copiedByAll, copiedInTrace}
+use Rattle.bus.specs.Bus.{Device, eventOf, levelOf, nextDevice, busStepAt, busStep, withAnswer, runTrace, copiedByAll, copiedInTrace}
 use Rattle.search_laws.proofs.Codes.{differ}
+use Rattle.search_laws.proofs.Devices.{Aside, Idle}
 use Rattle.search_laws.specs.Search.{Search, searchStopped, searchPreceded, searchExchange, searchFrom}
 
 abbrev pub bodies : List Device → List (List ℕ)
 bodies ds = map (λ (d : Device). d .body) ds
 
 -- From a master and devices, by these events, with these codes completed, to a master and devices. Each step is given the level that the
--- devices answered to the event just sent, and each event finds them as the one before left them. No event changes a body, and in none is
--- a byte copied.
+-- devices answered to the event just sent, and each event finds them as the one before left them. No event changes a body, in none is
+-- a byte copied, and every slot finds the devices in the ROM stage.
 pub data Driven : Master → List Device → List ℕ → List ℕ → Master → List Device → Type 0 where
   here : {m : Master} {ds : List Device} → Driven m ds [] [] m ds
   on : {m n r : Master} {ds es fs : List Device} {e : ℕ} {level : Bool} {code trace codes : List ℕ}
@@ -31,7 +31,7 @@ pub data Driven : Master → List Device → List ℕ → List ℕ → Master �
       → masterAfterLevel m level ≡ n
       → map (nextDevice (eventOf e) level) ds ≡ es
       → bodies es ≡ bodies ds
-      → copiedByAll (eventOf e) level ds ≡ 0
+      → Idle (eventOf e) level ds
       → codeCompleted (m .passes) n ≡ code
       → Driven n es trace codes r fs
       → Driven m ds (e ∷ trace) (code ++ codes) r fs
@@ -81,7 +81,21 @@ pub driven-copies : {m r : Master} {ds fs : List Device} {t c : List ℕ} → Dr
 unfolding copiedInTrace busStep busStepAt
 driven-copies here = refl
 driven-copies (on {ds = ds} {es = es} {e = e} {level = level} {trace = trace} s l a w b o c p) =
-    rw (l, w) (omega (arith, o, driven-copies p))
+    rw (l, w) (omega (arith, o .0, driven-copies p))
+
+-- every slot finds the devices in the ROM stage
+abbrev pub AsideIn : List ℕ → List Device → Type 0
+AsideIn [] ds = Unit {0}
+AsideIn (byte ∷ trace) ds = Aside (eventOf byte) ds × AsideIn trace (busStep (eventOf byte) ds .devices)
+
+step-devices : (e : ℕ) (ds es : List Device) (level : Bool) → levelOf (eventOf e) ds ≡ level → map (nextDevice (eventOf e) level) ds ≡ es → busStep (eventOf e) ds .devices ≡ es
+unfolding busStep busStepAt
+step-devices e ds es level l w = ap (λ (x : Bool). map (nextDevice (eventOf e) x) ds) l ∙ w
+
+pub driven-aside : {m r : Master} {ds fs : List Device} {t c : List ℕ} → Driven m ds t c r fs → AsideIn t ds
+driven-aside here = tt
+driven-aside (on {ds = ds} {es = es} {e = e} {level = level} {trace = trace} s l a w b o c p) =
+    (o .1, subst (λ (x : List Device). AsideIn trace x) (sym (step-devices e ds es level l w)) (driven-aside p))
 
 -- ---- a master that is given its answers
 

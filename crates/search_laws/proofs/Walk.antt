@@ -17,7 +17,7 @@ use Rattle.device.specs.Device.{resetState}
 use Rattle.device.proofs.Search.{commanded}
 use Rattle.bus.specs.declared.Event.{Event}
 use Rattle.bus.specs.declared.Event.the-variants as events
-use Rattle.bus.specs.Bus.{Device, eventOf, hears, answersLow, pullsLow, someLow, masterHigh, levelOf, nextDevice, copiedByAll}
+use Rattle.bus.specs.Bus.{Device, eventOf, hears, answersLow, pullsLow, someLow, masterHigh, levelOf, nextDevice}
 use Rattle.master.specs.declared.Stage.the-variants.{Reset, Command, FirstRead, Direction}
 use Rattle.master.specs.declared.Discrepancy.{Discrepancy}
 use Rattle.master.specs.declared.Discrepancy.the-variants.{None, At}
@@ -31,7 +31,7 @@ use Rattle.search_laws.proofs.Bits.{bitsFrom}
 use Rattle.search_laws.proofs.Devices.{Sized, Member, active, inactive, device, standsBy, stands, addressedState, searches, rests, bits-read, complements-read, bits-after, complements-after}
 use Rattle.search_laws.proofs.Devices.{direction-level, moved, nextBit, direction-after, next-bit, last-bit, moved-devices, moved-rests, Unwritten, reset-all, all-active, all-rests}
 use Rattle.search_laws.proofs.Devices.{command-level, command-after, command-done}
-use Rattle.search_laws.proofs.Devices.{bits-copied, complements-copied, direction-copied, command-copied, reset-copied}
+use Rattle.search_laws.proofs.Devices.{Idle, bits-idle, complements-idle, direction-idle, command-idle, reset-idle}
 use Rattle.search_laws.proofs.Steps.{masterOf, marked, reset-step, command-step, command-last, first-step, second-step, direction-step, completes, none-completed, one-completed}
 use Rattle.search_laws.proofs.Driven.{bodies, Driven, here, on}
 
@@ -119,13 +119,13 @@ on-slot : {m n r : Master} {ds es fs : List Device} {level : Bool} {code trace c
     → masterAfterLevel m level ≡ n
     → map (nextDevice (events.Slot bit) level) ds ≡ es
     → bodies es ≡ bodies ds
-    → copiedByAll (events.Slot bit) level ds ≡ 0
+    → Idle (events.Slot bit) level ds
     → codeCompleted (m .passes) n ≡ code
     → Driven n es trace codes r fs
     → Driven m ds (slotEvent bit ∷ trace) (code ++ codes) r fs
 on-slot {ds = ds} {es = es} {level = level} bit s l a w b o c p =
     on s (ap (λ (e : Event). levelOf e ds) (slot-event bit) ∙ l) a (ap (λ (e : Event). map (nextDevice e level) ds) (slot-event bit) ∙ w) b
-    (ap (λ (e : Event). copiedByAll e level ds) (slot-event bit) ∙ o) c p
+    (subst (λ (e : Event). Idle e level ds) (sym (slot-event bit)) o) c p
 
 -- the line state is no part of a body, so the same devices in other line states have the same bodies
 standing-bodies : (s : Kind → List ℕ → LineState) (ms : List Member) → bodies (standsBy s ms) ≡ bodies (map device ms)
@@ -162,12 +162,12 @@ module _ (p : ℕ) (few : p < 64) (c : Code) (previous : List ℕ) (last : Discr
       let at-complement = searches k (read ∷ []) in
       let at-direction = searches k (read ∷ complement ∷ []) in
       on-slot true refl (bits-read k m low ms z) (first-step p code opened previous last few k low _) (bits-after k m low read ms z)
-      (same-bodies at-complement at-bit ms) (bits-copied k m low read ms) (none-completed p _ _ _ _ _)
+      (same-bodies at-complement at-bit ms) (bits-idle k m low read ms) (none-completed p _ _ _ _ _)
       (on-slot true refl (complements-read k m low read ms z) (second-step p code opened previous last few k low _ _ d nc de)
-      (complements-after k m low read complement ms z) (same-bodies at-direction at-complement ms) (complements-copied k m low read complement ms)
+      (complements-after k m low read complement ms z) (same-bodies at-direction at-complement ms) (complements-idle k m low read complement ms)
       (none-completed p _ _ _ _ _)
       (on-slot d refl (direction-level k m low read complement d ms z) a (direction-after k read complement d ms low z)
-      (moved-bodies k d (nextBit k) at-direction ms) (direction-copied k m low read complement d ms) done go))
+      (moved-bodies k d (nextBit k) at-direction ms) (direction-idle k m low read complement d ms) done go))
 
   -- the bits that are left of a pass, by which the code d is found, with h its last open discrepancy from bit k on
   abbrev Rest : ℕ → List Member → List ℕ → Discrepancy → Code → Discrepancy → Type 0
@@ -260,7 +260,7 @@ module _ (p : ℕ) (few : p < 64) (c : Code) (previous : List ℕ) (last : Discr
   command-slot levels at b ms code opened e low z s go =
       on-slot b s (command-level levels b ms (omega arith) z) (command-step p code opened previous last few at b low)
       (command-after levels b ms (omega arith) z) (same-bodies (λ kind body. commanded (levels ++ b ∷ [])) (λ kind body. commanded levels) ms)
-      (command-copied levels b ms) (none-completed p _ _ _ _ _) go
+      (command-idle levels b ms) (none-completed p _ _ _ _ _) go
 
   -- F0h
   command : (ms : List Member) (code : List ℕ) (opened : Discrepancy) {r : Master} {fs : List Device} {trace codes : List ℕ} → Sized (map device ms)
@@ -279,7 +279,7 @@ module _ (p : ℕ) (few : p < 64) (c : Code) (previous : List ℕ) (last : Discr
       (on-slot true refl (command-level (four ++ true ∷ true ∷ true ∷ []) true ms (omega arith) z) (command-last p code opened previous last few true)
       (command-done (four ++ true ∷ true ∷ true ∷ []) true ms refl z)
       (same-bodies (searches 0 []) (λ kind body. commanded (four ++ true ∷ true ∷ true ∷ [])) ms)
-      (command-copied (four ++ true ∷ true ∷ true ∷ []) true ms) (none-completed p _ _ _ _ _) go)))))))
+      (command-idle (four ++ true ∷ true ∷ true ∷ []) true ms) (none-completed p _ _ _ _ _) go)))))))
 
   someone : (s : Kind → List ℕ → LineState) (ms : List Member) → 0 < length ms → levelOf events.Reset (standsBy s ms) ≡ false
   unfolding levelOf masterHigh someLow pullsLow hears answersLow
@@ -304,7 +304,7 @@ module _ (p : ℕ) (few : p < 64) (c : Code) (previous : List ℕ) (last : Discr
       let opened : merged 0 h None ≡ h = start h in (
         rest .0,
         on refl (someone s ms some) (reset-step p noBits None previous last few) (reset-all s false ms u) (active-bodies (λ kind body. resetState) s ms)
-            (reset-copied false (standsBy s ms)) (none-completed p _ _ _ _ _)
+            (reset-idle false (standsBy s ms)) (none-completed p _ _ _ _ _)
             (command all noBits None sized (rw opened at (rest .1))),
         rest .2 ∙ same,
       )

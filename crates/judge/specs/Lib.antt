@@ -1,0 +1,4 @@
+pub mod Rules
+pub mod Judge
+pub mod Refusal
+pub mod Loops
