@@ -3,13 +3,13 @@
 -- in a slot has no part in a device's turn, nor has the level of a reset or a pulse. Assumes nothing.
 use Prim.Native.Nat.{ℕ, zero, suc, _+_, _-_, _<_, _≤_}
 use mathlib.Core.Path.{_≡_, refl, sym, ap, _∙_}
-use mathlib.Core.Bool.{Bool, true, false, not, cond, _&&_, Bool·beq, true≢false}
+use mathlib.Core.Bool.{Bool, true, false, not, cond, _&&_, _||_, Bool·beq, true≢false}
 use mathlib.Core.List.{List, [], _∷_, _++_}
 use native.Mathlib.Omega.{arith}
 use lib.ListN.{length, set, take, drop, take-append-drop}
 use lib.Seq.{drop-drop}
 use lib.Dec.{ltb, eqb}
-use borrow.Author.Tests.{ltb-true, le-ltb, ne-eqb, not-true}
+use borrow.Author.Tests.{ltb-true, lt-ltb, le-ltb, ne-eqb, not-true}
 use Rattle.line.specs.Transfers.{goesOn, shifted}
 use Rattle.device.specs.declared.LineState.{LineState}
 use Rattle.device.specs.Device.{lineState, waitingState, waits, stateAfterSlotAsIs, bodyAfterSlotAsIs, bytesInSlotAsIs}
@@ -295,6 +295,33 @@ slot-bytes P (suc (suc (suc (suc (suc zero))))) e p q r s = s
 slot-bytes P (suc (suc (suc (suc (suc (suc zero)))))) e p q r s = absurd (true≢false (sym e))
 slot-bytes P (suc (suc (suc (suc (suc (suc (suc byte))))))) e p q r s =
     absurd (true≢false (sym e ∙ ap isSlot (over-six (suc (suc (suc (suc (suc (suc (suc byte))))))) (omega arith))))
+
+-- the tests for them
+pub slot-test : (byte : ℕ) → ((ltb byte 2 || eqb byte 4) || eqb byte 5) ≡ isSlot (eventOf byte)
+unfolding isSlot eventOf
+slot-test zero = refl
+slot-test (suc zero) = refl
+slot-test (suc (suc zero)) = refl
+slot-test (suc (suc (suc zero))) = refl
+slot-test (suc (suc (suc (suc zero)))) = refl
+slot-test (suc (suc (suc (suc (suc zero))))) = refl
+slot-test (suc (suc (suc (suc (suc (suc zero)))))) = refl
+slot-test (suc (suc (suc (suc (suc (suc (suc byte))))))) =
+    let v = suc (suc (suc (suc (suc (suc (suc byte)))))) in
+    rw (over-six v (omega arith), le-ltb v 2 (omega arith), ne-eqb v 4 (λ z. absurd (omega arith)), ne-eqb v 5 (λ z. absurd (omega arith)))
+
+pub overdrive-test : (byte : ℕ) → (ltb 3 byte && ltb byte 7) ≡ isOverdrive (eventOf byte)
+unfolding isOverdrive eventOf
+overdrive-test zero = refl
+overdrive-test (suc zero) = refl
+overdrive-test (suc (suc zero)) = refl
+overdrive-test (suc (suc (suc zero))) = refl
+overdrive-test (suc (suc (suc (suc zero)))) = refl
+overdrive-test (suc (suc (suc (suc (suc zero))))) = refl
+overdrive-test (suc (suc (suc (suc (suc (suc zero)))))) = refl
+overdrive-test (suc (suc (suc (suc (suc (suc (suc byte))))))) =
+    let v = suc (suc (suc (suc (suc (suc (suc byte)))))) in
+    rw (lt-ltb 3 v (omega arith), le-ltb v 7 (omega arith), over-six v (omega arith))
 
 -- the byte that stands for the slots at the speed of a slot
 abbrev pub slotOf : ℕ → ℕ

@@ -112,26 +112,14 @@ fn hears(byte: u8, state: LineState) -> bool
 fn is_slot(byte: u8) -> bool
     ensures { λ r. ⌜ r ≡ isSlot (eventOf byte) ⌝ }
 {
-    match event_of(byte) {
-        Event::Slot(_) => true,
-        Event::Reset => false,
-        Event::Pulse => false,
-        Event::OverdriveSlot(_) => true,
-        Event::OverdriveReset => false,
-    }
+    (byte < 2) | (byte == 4) | (byte == 5)
 }
 
 // The events at overdrive are 4, 5 and 6. The program pulse has no speed.
 fn is_overdrive(byte: u8) -> bool
     ensures { λ r. ⌜ r ≡ isOverdrive (eventOf byte) ⌝ }
 {
-    match event_of(byte) {
-        Event::Slot(_) => false,
-        Event::Reset => false,
-        Event::Pulse => false,
-        Event::OverdriveSlot(_) => true,
-        Event::OverdriveReset => true,
-    }
+    (3 < byte) & (byte < 7)
 }
 
 // In an event a device leaves the line high if it does not hear it, or if it answers with a 1: in a slot it answers

@@ -1,59 +1,9 @@
-use Rattle.bus.specs.Loops.{isSlot}
-use mathlib.Core.Path.{refl, sym, _∙_}
-use borrow.Author.Needs.{needs}
+use Rattle.bus.proofs.Idle.{slot-test}
 use Rattle.bus.proofs.is_slot.Statement.{statement}
 use Rattle.bus.proofs.is_slot.Tie as tie
 
-event-of-requires : tie.Need-event-of-requires
-event-of-requires c κs = search needs
-
-enum-told : tie.Need-enum-told
-enum-told c = search needs
-
-enum-told-2 : tie.Need-enum-told-2
-enum-told-2 c = search needs
-
-enum-told-3 : tie.Need-enum-told-3
-enum-told-3 c = search needs
-
-enum-told-4 : tie.Need-enum-told-4
-enum-told-4 c = search needs
-
-enum-told-5 : tie.Need-enum-told-5
-enum-told-5 c = search needs
-
 returns : tie.Need-returns
-unfolding isSlot
-returns c = rw (sym (c .before .before .event-of .ensures) ∙ c .enum-told .given .1)
-
-returns-2 : tie.Need-returns-2
-unfolding isSlot
-returns-2 c = rw (sym (c .before .before .event-of .ensures) ∙ c .enum-told2 .given .1)
-
-returns-3 : tie.Need-returns-3
-unfolding isSlot
-returns-3 c = rw (sym (c .before .before .event-of .ensures) ∙ c .enum-told3 .given .1)
-
-returns-4 : tie.Need-returns-4
-unfolding isSlot
-returns-4 c = rw (sym (c .before .before .event-of .ensures) ∙ c .enum-told4 .given .1)
-
-returns-5 : tie.Need-returns-5
-unfolding isSlot
-returns-5 c = rw (sym (c .before .before .event-of .ensures) ∙ c .enum-told5 .given .1)
+returns c = slot-test (c .args .byte)
 
 pub is-slot-spec : {M : Type 1} → statement M
-is-slot-spec =
-    tie.close
-    (tie.spec
-    event-of-requires
-    enum-told
-    enum-told-2
-    enum-told-3
-    enum-told-4
-    enum-told-5
-    returns
-    returns-2
-    returns-3
-    returns-4
-    returns-5)
+is-slot-spec = tie.close (tie.spec returns)
