@@ -57,7 +57,7 @@ nextBodyAsIs event level d = cond (hears event (d .state)) (heardBodyAsIs event 
 unfoldable pub copiedAsIs : Event → Bool → Device → ℕ
 copiedAsIs event level d = cond (hears event (d .state)) (heardCopiedAsIs event level d) 0
 
--- The events are slots, resets and the program pulse, and those at overdrive are named so.
+-- An event is a slot or not, and it comes at overdrive or not. The program pulse has no speed.
 unfoldable pub isSlot : Event → Bool
 isSlot (Slot sent) = true
 isSlot Reset = false

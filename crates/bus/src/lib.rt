@@ -252,11 +252,11 @@ fn unheard(state: LineState, overdrive: bool) -> LineState
     }
 }
 
-// This is device i's part in a slot at a level, where `overdrive` tells at which speed the slot comes. Inside a transfer
-// a slot only shifts the register, and a device that waits has no part in it: a body is looked for only in the last slot
-// of a transfer. A run's line states are in range from the first event on (proofs/Ranges.antt), so that no range is
-// tested here. The last slot stands here and not in a function of its own, as a line state that is passed on by
-// reference costs more than all else in a slot.
+// This is device i's part in a slot at a level, where `overdrive` tells at which speed the slot comes. Inside a
+// transfer a slot only shifts the register, and a device that waits has no part in it: a body is looked for only in the
+// last slot of a transfer. A run's line states are in range from the first event on (proofs/Ranges.antt), so that no
+// range is tested here. The last slot stands here and not in a function of its own: one with two callers is not
+// inlined, and a line state that goes to it through memory costs more than all else in a slot.
 fn slot(image: &mut [u8], i: usize, state: LineState, overdrive: bool, level: bool) -> SlotTurn
     ensures { λ r. ⌜ (r ≡ slotTurn (turnState (now (image .entry)) i state (slotByte overdrive) level)
         (turnCopied (now (image .entry)) i state (slotByte overdrive) level))
@@ -365,8 +365,8 @@ fn read_slot(image: &[u8], i: usize, state: LineState, overdrive: bool, level: b
     state.step_as_is(kind, &image[start..end], level)
 }
 
-// This is device i's part in a reset or a program pulse that it hears. The level has no part in it, and is 1 in the
-// contract.
+// This is device i's part in a reset or a program pulse that it hears. No slot comes here, so that an event that is not
+// a reset is the pulse. The level has no part in it, and is 1 in the contract.
 fn turn(image: &mut [u8], i: usize, state: LineState, byte: u8) -> SlotTurn
     requires { ⌜ (isSlot (eventOf byte) ≡ false) × (hears (eventOf byte) state ≡ true) ⌝ }
     ensures { λ r. ⌜ (r ≡ slotTurn (turnState (now (image .entry)) i state byte true)

@@ -1,13 +1,14 @@
 -- `bus::step_all` meets its contract: a walk of its MIR. The image is passed on as a copy, and the lines are lent to
 -- `read_slot_all` or to `read_turn_all`, for a lifetime of the call, and come back.
 -- Each arm of the `if` ends in `leaves`, the code behind it. What the master sends in a slot has no part in a turn
--- (`states-slot` of `Idle.antt`), so each leaves what the contract says.
+-- (`states-slot` of `Idle.antt`), nor has the level of another event (`states-other`), so each leaves what the contract
+-- says.
 -- All that it knows of its callees is that each meets its contract.
 -- Assumes nothing. `Walk.antt` of `walks` says how a walk is written.
-use Rattle.walks.proofs.Walk.{Bool, true, _≡_, refl, ap, _∙_, ℕ, _<_, _≤_, arith, [], _∷_, List, length, URA}
+use Rattle.walks.proofs.Walk.{Bool, true, _≡_, refl, ap, _∙_, ℕ, _≤_, arith, [], _∷_, List, length, URA}
 use Rattle.walks.proofs.Walk.{fullShare, named, w8, w64, vunit, vint, vbool, SProp, emp, id⊢, flft, Fun, factI, Lfts}
 use Rattle.walks.proofs.Walk.{Shares, givenOf, tables, tablesOf, Memory, Routine, Heap, Tables, Atoms, Given, Item, ‵, _$_}
-use Rattle.walks.proofs.Walk.{Sq, runs, atRet, !, move, look, lit, unit-lit, of-opd, no-more, bin, returns, Is, u8, u64}
+use Rattle.walks.proofs.Walk.{Sq, runs, atRet, !, move, look, unit-lit, of-opd, no-more, returns, Is, u8, u64}
 use Rattle.walks.proofs.Walk.{RefT, ShrSlice, MutSlice, Room, cited, Cell, void, has, Blocks, env, stand, quits, lowers}
 use Rattle.walks.proofs.Walk.{Walk, End, Met, enters, asks, asks-last, finishes, proved, var, count, new, to, under, ptr}
 use Rattle.walks.proofs.Walk.{val, again, ifs, lands-new, ends-new, also, lends, backs}

@@ -1,13 +1,14 @@
 -- `bus::step_event` meets its contract: a walk of its MIR. The image and the lines are lent to `slot_all` or to
 -- `turn_all`, for a lifetime of the call, and come back.
 -- Each arm of the `if` ends in `leaves`, the code behind it. What the master sends in a slot has no part in a turn
--- (`turns-slot` of `Idle.antt`), so each leaves what the contract says.
+-- (`turns-slot` of `Idle.antt`), nor has the level of another event (`turns-other`), so each leaves what the contract
+-- says.
 -- All that it knows of its callees is that each meets its contract.
 -- Assumes nothing. `Walk.antt` of `walks` says how a walk is written.
-use Rattle.walks.proofs.Walk.{Bool, _≡_, refl, _∙_, ℕ, _<_, _≤_, [], _∷_, List, length, lit<, URA, fullShare}
+use Rattle.walks.proofs.Walk.{Bool, _≡_, refl, _∙_, ℕ, _≤_, [], _∷_, List, length, lit<, URA, fullShare}
 use Rattle.walks.proofs.Walk.{named, w8, w64, vint, vbool, SProp, emp, id⊢, flft, Fun, factI, Lfts, Shares}
 use Rattle.walks.proofs.Walk.{givenOf, tables, tablesOf, Memory, Routine, Heap, Tables, Atoms, Given, Item, ‵, _$_, Sq}
-use Rattle.walks.proofs.Walk.{runs, atRet, !, move, look, lit, of-opd, no-more, bin, returns, Is, u8, u64, RefT}
+use Rattle.walks.proofs.Walk.{runs, atRet, !, move, look, lit, of-opd, no-more, returns, Is, u8, u64, RefT}
 use Rattle.walks.proofs.Walk.{MutSlice, Room, cited, Cell, void, has, Blocks, env, stand, quits, lowers, Walk, End, Met}
 use Rattle.walks.proofs.Walk.{enters, asks, asks-last, finishes, proved, var, new, to, under, ptr, val, again, ifs, ends-renew}
 use Rattle.walks.proofs.Walk.{lands-new, also, lends, backs}

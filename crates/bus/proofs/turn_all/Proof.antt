@@ -15,7 +15,7 @@ use Rattle.walks.proofs.Walk.{no-more, bin, assigns, returns, Is, u8, u64, RefT
 use Rattle.walks.proofs.Walk.{has, Blocks, env, stand, quits, lowers, Walk, Met, enters, asks, asks-last, finishes, proved, var}
 use Rattle.walks.proofs.Walk.{head, new, bump, whiles, to, under, ptr, val, points, again, lands-new, Opened}
 use Rattle.walks.proofs.Walk.{opens-mut, closes-mut, also, lends, backs, sees, in-row, elem, onto-row}
-use Rattle.walks.proofs.Walk.{lands-renew, ends-renew, ifs, skips, Post, Sq, prop, post, next}
+use Rattle.walks.proofs.Walk.{ends-renew, ifs, skips, Post, Sq, prop, post, next}
 use mathlib.Core.Bool.{Bool, true, false}
 use Rattle.device.specs.declared.LineState.{LineState}
 use Rattle.device.specs.Device.{waitingState}

@@ -1,4 +1,4 @@
-use mathlib.Core.Path.{refl, sym, _∙_}
+use mathlib.Core.Path.{refl}
 use Rattle.bus.specs.Bus.{eventOf, unheardState}
 use Rattle.bus.specs.Loops.{slotByte}
 use borrow.Author.Needs.{needs}
