@@ -19,8 +19,8 @@ use Rattle.device.proofs.Laws.{going-on-copies}
 use Rattle.bus.specs.declared.Event.{Event}
 use Rattle.bus.specs.declared.Event.the-variants.{Slot, Reset, Pulse, OverdriveSlot, OverdriveReset}
 use Rattle.bus.specs.declared.Place.{Place}
-use Rattle.bus.specs.Bus.{Device, eventOf, takenState, hears, heardState, heardBody, unheardState, heardCopied, nextState, nextBody, copiedIn}
-use Rattle.bus.specs.Loops.{heardStateAsIs, heardBodyAsIs, heardCopiedAsIs, isSlot, isOverdrive, slotByte, kindIn, bodyIn}
+use Rattle.bus.specs.Bus.{Device, eventOf, takenState, hears, heardState, heardBody, unheardState, heardCopied, nextState, nextBody, copiedIn, isSlot, isOverdrive}
+use Rattle.bus.specs.Loops.{heardStateAsIs, heardBodyAsIs, heardCopiedAsIs, slotByte, kindIn, bodyIn}
 use Rattle.bus.specs.Loops.{nextStateAsIs, nextBodyAsIs, passedOver, placeIn, deviceAtPlace, deviceIn, imageWithBody, turnState, turnImage}
 use Rattle.bus.specs.Loops.{copiedAsIs, turnCopied, mostCopied, addedTo, copiedUpTo}
 use Rattle.bus.specs.Loops.{lineAt, BusState, busState, turnAt, turnsUpTo, turnStatesFrom, turnStatesOf}

@@ -57,21 +57,6 @@ nextBodyAsIs event level d = cond (hears event (d .state)) (heardBodyAsIs event 
 unfoldable pub copiedAsIs : Event → Bool → Device → ℕ
 copiedAsIs event level d = cond (hears event (d .state)) (heardCopiedAsIs event level d) 0
 
--- An event is a slot or not, and it comes at overdrive or not. The program pulse has no speed.
-unfoldable pub isSlot : Event → Bool
-isSlot (Slot sent) = true
-isSlot Reset = false
-isSlot Pulse = false
-isSlot (OverdriveSlot sent) = true
-isSlot OverdriveReset = false
-
-unfoldable pub isOverdrive : Event → Bool
-isOverdrive (Slot sent) = false
-isOverdrive Reset = false
-isOverdrive Pulse = false
-isOverdrive (OverdriveSlot sent) = true
-isOverdrive OverdriveReset = true
-
 -- What the master sends in a slot has no part in a device's turn, which is given the level: the slot in which it sends
 -- 1 stands for both slots at its speed.
 unfoldable pub slotByte : Bool → ℕ

@@ -18,9 +18,9 @@ use Rattle.walks.proofs.Walk.{ifs, skips, assigns-last, Post, Sq, prop, post, n
 use mathlib.Core.Bool.{Bool, true, false}
 use Rattle.device.specs.declared.LineState.{LineState}
 use Rattle.device.specs.Device.{waitingState}
-use Rattle.bus.specs.Bus.{eventOf}
+use Rattle.bus.specs.Bus.{eventOf, isSlot}
 use Rattle.bus.specs.Bus.{hears as hearsOf}
-use Rattle.bus.specs.Loops.{turnState, lineAt, isSlot}
+use Rattle.bus.specs.Loops.{turnState, lineAt}
 use Rattle.bus.proofs.Idle.{other-over, unheard-line}
 use Rattle.bus.proofs.States.{steps, steps-length, steps-upto}
 use Rattle.bus.proofs.Lines.{width, fits-at, fits-next, T-true, T-false, R, mach, typed, line}

@@ -14,8 +14,8 @@ use Rattle.walks.proofs.Walk.{Walk, End, Met, enters, asks, asks-last, finishes
 use Rattle.walks.proofs.Walk.{val, again, ifs, lands-new, ends-new, also, lends, backs}
 use mathlib.Core.Bool.{false}
 use Rattle.device.specs.declared.LineState.{LineState}
-use Rattle.bus.specs.Bus.{eventOf}
-use Rattle.bus.specs.Loops.{fewerOf, turnStatesOf, isSlot, isOverdrive, slotByte}
+use Rattle.bus.specs.Bus.{eventOf, isSlot, isOverdrive}
+use Rattle.bus.specs.Loops.{fewerOf, turnStatesOf, slotByte}
 use Rattle.bus.proofs.Idle.{states-slot, states-other}
 use Rattle.bus.proofs.Laws.{fewer-second}
 use Rattle.bus.proofs.States.{states-fewer, states-length}

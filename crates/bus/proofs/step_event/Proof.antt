@@ -14,8 +14,8 @@ use Rattle.walks.proofs.Walk.{enters, asks, asks-last, finishes, proved, var, n
 use Rattle.walks.proofs.Walk.{lands-new, also, lends, backs}
 use mathlib.Core.Bool.{true, false}
 use Rattle.device.specs.declared.LineState.{LineState}
-use Rattle.bus.specs.Bus.{eventOf}
-use Rattle.bus.specs.Loops.{BusState, busState, turnsUpTo, copiedUpTo, isSlot, isOverdrive, slotByte}
+use Rattle.bus.specs.Bus.{eventOf, isSlot, isOverdrive}
+use Rattle.bus.specs.Loops.{BusState, busState, turnsUpTo, copiedUpTo, slotByte}
 use Rattle.bus.proofs.Idle.{turns-slot, copied-slot, turns-other, copied-other}
 use Rattle.bus.proofs.Laws.{turns-image-length, turns-lines-length}
 use Rattle.bus.proofs.Lines.{R, T-true, T-false}

@@ -19,11 +19,11 @@ use Rattle.walks.proofs.Walk.{ends-renew, ifs, skips, Post, Sq, prop, post, nex
 use mathlib.Core.Bool.{Bool, true, false}
 use Rattle.device.specs.declared.LineState.{LineState}
 use Rattle.device.specs.Device.{waitingState}
-use Rattle.bus.specs.Bus.{eventOf}
+use Rattle.bus.specs.Bus.{eventOf, isSlot}
 use Rattle.bus.specs.Bus.{hears as hearsOf}
 use Rattle.bus.specs.declared.SlotTurn.{SlotTurn}
 use Rattle.bus.specs.Loops.{turnState, turnCopied, slotTurn, lineAt, BusState, busState, turnsUpTo, turnAt}
-use Rattle.bus.specs.Loops.{copiedUpTo, isSlot}
+use Rattle.bus.specs.Loops.{copiedUpTo}
 use Rattle.bus.proofs.Idle.{other-over, unheard-turn, unheard-copied-more}
 use Rattle.bus.proofs.Laws.{turns-image-length, turns-lines-length, copied-fits}
 use Rattle.bus.proofs.Lines.{width, fits-at, fits-next, T-true, T-false, R, mach, typed, line, slot-turn}
