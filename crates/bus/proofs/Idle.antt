@@ -1,26 +1,26 @@
--- A device that waits has no part in a regular slot, one at overdrive waits after it, and inside a transfer a slot only shifts a device's
--- register: the image stays. It stays too where a device does not hear an event. What the master sends in a slot has no part in a device's
--- turn. Assumes nothing.
+-- A device that waits at regular speed has no part in a slot, one that does not hear a slot is left as the slot's speed says, and inside a
+-- transfer a slot only shifts a device's register: the image stays. It stays too where a device does not hear an event. What the master sends
+-- in a slot has no part in a device's turn, nor has the level of a reset or a pulse. Assumes nothing.
 use Prim.Native.Nat.{ℕ, zero, suc, _+_, _-_, _<_, _≤_}
 use mathlib.Core.Path.{_≡_, refl, sym, ap, _∙_}
-use mathlib.Core.Bool.{Bool, true, false, not, cond, _&&_, true≢false}
+use mathlib.Core.Bool.{Bool, true, false, not, cond, _&&_, _||_, Bool·beq, true≢false}
 use mathlib.Core.List.{List, [], _∷_, _++_}
 use native.Mathlib.Omega.{arith}
 use lib.ListN.{length, set, take, drop, take-append-drop}
 use lib.Seq.{drop-drop}
 use lib.Dec.{ltb, eqb}
-use borrow.Author.Tests.{ltb-true, le-ltb, ne-eqb}
+use borrow.Author.Tests.{ltb-true, lt-ltb, le-ltb, ne-eqb, not-true}
 use Rattle.line.specs.Transfers.{goesOn, shifted}
 use Rattle.device.specs.declared.LineState.{LineState}
-use Rattle.device.specs.Device.{lineState, waitingState, waits}
+use Rattle.device.specs.Device.{lineState, waitingState, waits, stateAfterSlotAsIs, bodyAfterSlotAsIs, bytesInSlotAsIs}
 use Rattle.device.proofs.Range.{waits-waiting}
 use Rattle.device.proofs.Laws.{waiting-or-waiting, waiting-step, waiting-write, waiting-copies, going-on-steps, going-on-writes}
 use Rattle.device.proofs.Laws.{going-on-copies}
 use Rattle.bus.specs.declared.Event.{Event}
 use Rattle.bus.specs.declared.Event.the-variants.{Slot, Reset, Pulse, OverdriveSlot, OverdriveReset}
 use Rattle.bus.specs.declared.Place.{Place}
-use Rattle.bus.specs.Bus.{Device, eventOf, takenState, hears, heardState, heardBody, unheardState, heardCopied, nextState, nextBody, copiedIn}
-use Rattle.bus.specs.Loops.{heardStateAsIs, heardBodyAsIs, heardCopiedAsIs}
+use Rattle.bus.specs.Bus.{Device, eventOf, takenState, hears, heardState, heardBody, unheardState, heardCopied, nextState, nextBody, copiedIn, isSlot, isOverdrive}
+use Rattle.bus.specs.Loops.{heardStateAsIs, heardBodyAsIs, heardCopiedAsIs, slotByte, kindIn, bodyIn}
 use Rattle.bus.specs.Loops.{nextStateAsIs, nextBodyAsIs, passedOver, placeIn, deviceAtPlace, deviceIn, imageWithBody, turnState, turnImage}
 use Rattle.bus.specs.Loops.{copiedAsIs, turnCopied, mostCopied, addedTo, copiedUpTo}
 use Rattle.bus.specs.Loops.{lineAt, BusState, busState, turnAt, turnsUpTo, turnStatesFrom, turnStatesOf}
@@ -77,62 +77,6 @@ module _ (byte : ℕ) (d : Device) (ranged : InRange d) (idle : passedOver byte 
       slot-is (λ (v : Event). 0 ≡ copiedIn v level d) byte (unfolded .0)
       (λ sent. rw (unfolded .1, waiting-or-waiting (d .kind) (d .body)) (sym (waiting-copies (d .kind) (d .body) level)))
 
--- ---- inside a transfer
-
-module _ (state : LineState) (heard : hears (Slot true) state ≡ true) (inside : goesOn (state .transfer) ≡ true) (image : List ℕ) (i : ℕ)
-    (level : Bool) where
-  awake : passedOver 1 state ≡ false
-  unfolding passedOver waits
-  awake =
-      let more : 1 < state .transfer .left = ltb-true 1 (state .transfer .left) inside in
-      ap (λ (b : Bool). b && not (state .overdrive)) (ne-eqb (state .transfer .left) 0 (λ none. absurd (omega (arith, more, none))))
-
-  pub inside-state : lineState (shifted (state .transfer) level) (state .overdrive) ≡ turnState image i state 1 level
-  unfolding turnState eventOf nextStateAsIs heardStateAsIs deviceIn deviceAtPlace
-  inside-state = rw (awake, heard) (sym (going-on-steps state _ _ level inside))
-
-  pub inside-image : image ≡ turnImage image i state 1 level
-  unfolding turnImage eventOf nextBodyAsIs heardBodyAsIs deviceIn deviceAtPlace
-  inside-image =
-      rw (awake, heard) (sym (ap (imageWithBody image (placeIn image i)) (going-on-writes state _ _ level inside)
-      ∙ same-body image (placeIn image i) (place-inside image i)))
-
-  pub inside-copied : 0 ≡ turnCopied image i state 1 level
-  unfolding turnCopied eventOf copiedAsIs heardCopiedAsIs deviceIn deviceAtPlace
-  inside-copied = rw (awake, heard) (sym (going-on-copies state _ _ level inside))
-
--- ---- the speed of a device, and which slot it hears
-
-pub regular-hears : (state : LineState) → state .overdrive ≡ false → hears (Slot true) state ≡ true
-unfolding hears
-regular-hears state e = ap not e
-
--- a device at overdrive does not hear a regular slot, and waits after it
-module _ (state : LineState) (fast : state .overdrive ≡ true) (image : List ℕ) (i : ℕ) (level : Bool) where
-  deaf : hears (Slot true) state ≡ false
-  unfolding hears
-  deaf = ap not fast
-
-  going : passedOver 1 state ≡ false
-  unfolding passedOver waits
-  going = ap (λ (b : Bool). eqb (state .transfer .left) 0 && not b) fast ∙ never (eqb (state .transfer .left) 0)
-    where
-      never : (b : Bool) → (b && false) ≡ false
-      never true = refl
-      never false = refl
-
-  pub fallen-state : waitingState ≡ turnState image i state 1 level
-  unfolding turnState eventOf nextStateAsIs unheardState deviceIn deviceAtPlace
-  fallen-state = rw (going, deaf)
-
-  pub fallen-image : image ≡ turnImage image i state 1 level
-  unfolding turnImage eventOf nextBodyAsIs deviceIn deviceAtPlace
-  fallen-image = rw (going, deaf) (sym (same-body image (placeIn image i) (place-inside image i)))
-
-  pub fallen-copied : 0 ≡ turnCopied image i state 1 level
-  unfolding turnCopied eventOf copiedAsIs deviceIn deviceAtPlace
-  fallen-copied = rw (going, deaf)
-
 -- ---- an event that is not a regular slot
 
 -- a device that does not hear it stays as it is
@@ -183,27 +127,284 @@ module _ (byte : ℕ) (h : 2 ≤ byte) (image : List ℕ) (i : ℕ) (state : Lin
   unfolding turnCopied copiedAsIs deviceIn deviceAtPlace
   heard-copied = rw (none-passed byte state h, heard)
 
+-- ---- a slot at either speed
+
+-- a device hears one that comes at its own speed
+same-speed : (a b : Bool) → not (Bool·beq a b) ≡ false → a ≡ b
+same-speed true true e = refl
+same-speed true false e = absurd (true≢false e)
+same-speed false true e = absurd (true≢false e)
+same-speed false false e = refl
+
+pub own-heard : (state : LineState) (overdrive : Bool) → not (Bool·beq (state .overdrive) overdrive) ≡ false
+    → hears (eventOf (slotByte overdrive)) state ≡ true
+unfolding slotByte eventOf hears
+own-heard state true e = same-speed (state .overdrive) true e
+own-heard state false e = ap not (same-speed (state .overdrive) false e)
+
+-- and none that comes at the other
+other-speed : (a b : Bool) → not (Bool·beq a b) ≡ true → a ≡ not b
+other-speed true true e = absurd (true≢false (sym e))
+other-speed true false e = refl
+other-speed false true e = refl
+other-speed false false e = absurd (true≢false (sym e))
+
+pub other-unheard : (state : LineState) (overdrive : Bool) → not (Bool·beq (state .overdrive) overdrive) ≡ true
+    → hears (eventOf (slotByte overdrive)) state ≡ false
+unfolding slotByte eventOf hears
+other-unheard state true e = other-speed (state .overdrive) true e
+other-unheard state false e = ap not (other-speed (state .overdrive) false e)
+
+never : (b : Bool) → (b && false) ≡ false
+never true = refl
+never false = refl
+
+-- a device that does not hear it is not passed over
+unheard-not-passed : (state : LineState) (overdrive : Bool) → hears (eventOf (slotByte overdrive)) state ≡ false
+    → passedOver (slotByte overdrive) state ≡ false
+unfolding slotByte eventOf hears passedOver waits
+unheard-not-passed state true deaf = refl
+unheard-not-passed state false deaf = ap (λ (b : Bool). eqb (state .transfer .left) 0 && b) deaf ∙ never (eqb (state .transfer .left) 0)
+
+module _ (state : LineState) (overdrive : Bool) (deaf : hears (eventOf (slotByte overdrive)) state ≡ false) (image : List ℕ) (i : ℕ)
+    (level : Bool) where
+  pub unheard-slot-state : unheardState (eventOf (slotByte overdrive)) state ≡ turnState image i state (slotByte overdrive) level
+  unfolding turnState nextStateAsIs deviceIn deviceAtPlace
+  unheard-slot-state = rw (unheard-not-passed state overdrive deaf, deaf)
+
+  pub unheard-slot-image : image ≡ turnImage image i state (slotByte overdrive) level
+  unfolding turnImage nextBodyAsIs deviceIn deviceAtPlace
+  unheard-slot-image =
+      rw (unheard-not-passed state overdrive deaf, deaf) (sym (same-body image (placeIn image i) (place-inside image i)))
+
+  pub unheard-slot-copied : 0 ≡ turnCopied image i state (slotByte overdrive) level
+  unfolding turnCopied copiedAsIs deviceIn deviceAtPlace
+  unheard-slot-copied = rw (unheard-not-passed state overdrive deaf, deaf)
+
+-- one that hears it takes the level in its transfer, at either speed
+taken-state : (overdrive level : Bool) (d : Device)
+    → heardStateAsIs (eventOf (slotByte overdrive)) level d ≡ stateAfterSlotAsIs (d .state) (d .kind) (d .body) level
+unfolding slotByte eventOf heardStateAsIs
+taken-state true level d = refl
+taken-state false level d = refl
+
+taken-body : (overdrive level : Bool) (d : Device)
+    → heardBodyAsIs (eventOf (slotByte overdrive)) level d ≡ bodyAfterSlotAsIs (d .state) (d .kind) (d .body) level
+unfolding slotByte eventOf heardBodyAsIs
+taken-body true level d = refl
+taken-body false level d = refl
+
+taken-copied : (overdrive level : Bool) (d : Device)
+    → heardCopiedAsIs (eventOf (slotByte overdrive)) level d ≡ bytesInSlotAsIs (d .state) (d .kind) (d .body) level
+unfolding slotByte eventOf heardCopiedAsIs
+taken-copied true level d = refl
+taken-copied false level d = refl
+
+module _ (state : LineState) (overdrive : Bool) (heard : hears (eventOf (slotByte overdrive)) state ≡ true) (awake : waits state ≡ false)
+    (image : List ℕ) (i : ℕ) (level : Bool) where
+  not-passed : passedOver (slotByte overdrive) state ≡ false
+  unfolding passedOver
+  not-passed = ap (λ (b : Bool). ltb (slotByte overdrive) 2 && b) awake ∙ never (ltb (slotByte overdrive) 2)
+
+  pub heard-slot-state : turnState image i state (slotByte overdrive) level
+      ≡ stateAfterSlotAsIs state (kindIn image i) (bodyIn image i) level
+  unfolding turnState nextStateAsIs deviceIn deviceAtPlace kindIn bodyIn
+  heard-slot-state = rw (not-passed, heard) (taken-state overdrive level (deviceIn image i state))
+
+  pub heard-slot-image : turnImage image i state (slotByte overdrive) level
+      ≡ imageWithBody image (placeIn image i) (bodyAfterSlotAsIs state (kindIn image i) (bodyIn image i) level)
+  unfolding turnImage nextBodyAsIs deviceIn deviceAtPlace kindIn bodyIn
+  heard-slot-image = rw (not-passed, heard) (ap (imageWithBody image (placeIn image i)) (taken-body overdrive level (deviceIn image i state)))
+
+  pub heard-slot-copied : turnCopied image i state (slotByte overdrive) level
+      ≡ bytesInSlotAsIs state (kindIn image i) (bodyIn image i) level
+  unfolding turnCopied copiedAsIs deviceIn deviceAtPlace kindIn bodyIn
+  heard-slot-copied = rw (not-passed, heard) (taken-copied overdrive level (deviceIn image i state))
+
+-- inside a transfer
+module _ (state : LineState) (overdrive : Bool) (heard : hears (eventOf (slotByte overdrive)) state ≡ true)
+    (inside : goesOn (state .transfer) ≡ true) (image : List ℕ) (i : ℕ) (level : Bool) where
+  going : waits state ≡ false
+  unfolding waits
+  going =
+      let more : 1 < state .transfer .left = ltb-true 1 (state .transfer .left) inside in
+      ap (λ (b : Bool). b && not (state .overdrive)) (ne-eqb (state .transfer .left) 0 (λ none. absurd (omega (arith, more, none))))
+
+  pub inside-state : lineState (shifted (state .transfer) level) (state .overdrive) ≡ turnState image i state (slotByte overdrive) level
+  inside-state = sym (heard-slot-state state overdrive heard going image i level ∙ going-on-steps state _ _ level inside)
+
+  pub inside-image : image ≡ turnImage image i state (slotByte overdrive) level
+  unfolding bodyIn
+  inside-image =
+      sym (heard-slot-image state overdrive heard going image i level
+      ∙ ap (imageWithBody image (placeIn image i)) (going-on-writes state _ _ level inside)
+      ∙ same-body image (placeIn image i) (place-inside image i))
+
+  pub inside-copied : 0 ≡ turnCopied image i state (slotByte overdrive) level
+  inside-copied = sym (heard-slot-copied state overdrive heard going image i level ∙ going-on-copies state _ _ level inside)
+
+-- a device that waits at regular speed is passed over in a regular slot, and does not hear an overdrive slot
+module _ (image : List ℕ) (i : ℕ) (state : LineState) (idle : waits state ≡ true) (level : Bool) where
+  at-regular : state .overdrive ≡ false
+  unfolding waits
+  at-regular = not-true (state .overdrive) (both (eqb (state .transfer .left) 0) (not (state .overdrive)) idle .1)
+
+  overdrive-unheard : hears (eventOf 5) state ≡ false
+  unfolding eventOf hears
+  overdrive-unheard = at-regular
+
+  pub idle-slot-state : (overdrive : Bool) → turnState image i state (slotByte overdrive) level ≡ state
+  unfolding slotByte turnState passedOver
+  idle-slot-state true = unheard-state 5 (omega arith) image i state overdrive-unheard level
+  idle-slot-state false = rw idle
+
+  pub idle-slot-image : (overdrive : Bool) → turnImage image i state (slotByte overdrive) level ≡ image
+  unfolding slotByte turnImage passedOver
+  idle-slot-image true = unheard-image 5 (omega arith) image i state overdrive-unheard level
+  idle-slot-image false = rw idle
+
+  pub idle-slot-copied : (overdrive : Bool) → turnCopied image i state (slotByte overdrive) level ≡ 0
+  unfolding slotByte turnCopied passedOver
+  idle-slot-copied true = unheard-copied 5 (omega arith) image i state overdrive-unheard level
+  idle-slot-copied false = rw idle
+
 -- ---- what has no part in a device's turn
 
-module _ (image : List ℕ) (i : ℕ) (state : LineState) where
+-- a byte over 6 counts as the pulse
+over-six : (byte : ℕ) → 6 < byte → eventOf byte ≡ Pulse
+unfolding eventOf
+over-six byte h =
+    rw (
+      ne-eqb byte 0 (λ z. absurd (omega arith)),
+      ne-eqb byte 1 (λ z. absurd (omega arith)),
+      ne-eqb byte 2 (λ z. absurd (omega arith)),
+      ne-eqb byte 4 (λ z. absurd (omega arith)),
+      ne-eqb byte 5 (λ z. absurd (omega arith)),
+      ne-eqb byte 6 (λ z. absurd (omega arith)),
+    )
+
+-- the slots are the events 0, 1, 4 and 5
+slot-bytes : (P : ℕ → Type 0) (byte : ℕ) → isSlot (eventOf byte) ≡ true → P 0 → P 1 → P 4 → P 5 → P byte
+unfolding isSlot eventOf
+slot-bytes P zero e p q r s = p
+slot-bytes P (suc zero) e p q r s = q
+slot-bytes P (suc (suc zero)) e p q r s = absurd (true≢false (sym e))
+slot-bytes P (suc (suc (suc zero))) e p q r s = absurd (true≢false (sym e))
+slot-bytes P (suc (suc (suc (suc zero)))) e p q r s = r
+slot-bytes P (suc (suc (suc (suc (suc zero))))) e p q r s = s
+slot-bytes P (suc (suc (suc (suc (suc (suc zero)))))) e p q r s = absurd (true≢false (sym e))
+slot-bytes P (suc (suc (suc (suc (suc (suc (suc byte))))))) e p q r s =
+    absurd (true≢false (sym e ∙ ap isSlot (over-six (suc (suc (suc (suc (suc (suc (suc byte))))))) (omega arith))))
+
+-- the tests for them
+pub slot-test : (byte : ℕ) → ((ltb byte 2 || eqb byte 4) || eqb byte 5) ≡ isSlot (eventOf byte)
+unfolding isSlot eventOf
+slot-test zero = refl
+slot-test (suc zero) = refl
+slot-test (suc (suc zero)) = refl
+slot-test (suc (suc (suc zero))) = refl
+slot-test (suc (suc (suc (suc zero)))) = refl
+slot-test (suc (suc (suc (suc (suc zero))))) = refl
+slot-test (suc (suc (suc (suc (suc (suc zero)))))) = refl
+slot-test (suc (suc (suc (suc (suc (suc (suc byte))))))) =
+    let v = suc (suc (suc (suc (suc (suc (suc byte)))))) in
+    rw (over-six v (omega arith), le-ltb v 2 (omega arith), ne-eqb v 4 (λ z. absurd (omega arith)), ne-eqb v 5 (λ z. absurd (omega arith)))
+
+pub overdrive-test : (byte : ℕ) → (ltb 3 byte && ltb byte 7) ≡ isOverdrive (eventOf byte)
+unfolding isOverdrive eventOf
+overdrive-test zero = refl
+overdrive-test (suc zero) = refl
+overdrive-test (suc (suc zero)) = refl
+overdrive-test (suc (suc (suc zero))) = refl
+overdrive-test (suc (suc (suc (suc zero)))) = refl
+overdrive-test (suc (suc (suc (suc (suc zero))))) = refl
+overdrive-test (suc (suc (suc (suc (suc (suc zero)))))) = refl
+overdrive-test (suc (suc (suc (suc (suc (suc (suc byte))))))) =
+    let v = suc (suc (suc (suc (suc (suc (suc byte)))))) in
+    rw (lt-ltb 3 v (omega arith), le-ltb v 7 (omega arith), over-six v (omega arith))
+
+-- the byte that stands for the slots at the speed of a slot
+abbrev pub slotOf : ℕ → ℕ
+slotOf byte = slotByte (isOverdrive (eventOf byte))
+
+module _ (image : List ℕ) (i : ℕ) (state : LineState) (level : Bool) where
   -- what the master sends in a slot
-  pub slot-state : (byte : ℕ) (level : Bool) → byte < 2 → turnState image i state 1 level ≡ turnState image i state byte level
-  unfolding turnState passedOver eventOf nextStateAsIs heardStateAsIs unheardState hears
-  slot-state zero level h = refl
-  slot-state (suc zero) level h = refl
-  slot-state (suc (suc byte)) level h = absurd (omega arith)
+  pub slot-state : (byte : ℕ) → isSlot (eventOf byte) ≡ true → turnState image i state (slotOf byte) level ≡ turnState image i state byte level
+  unfolding slotByte isOverdrive turnState passedOver eventOf nextStateAsIs heardStateAsIs unheardState hears
+  slot-state byte e =
+      slot-bytes (λ (v : ℕ). turnState image i state (slotOf v) level ≡ turnState image i state v level) byte e refl refl refl refl
 
-  pub slot-image : (byte : ℕ) (level : Bool) → byte < 2 → turnImage image i state 1 level ≡ turnImage image i state byte level
-  unfolding turnImage passedOver eventOf nextBodyAsIs heardBodyAsIs hears
-  slot-image zero level h = refl
-  slot-image (suc zero) level h = refl
-  slot-image (suc (suc byte)) level h = absurd (omega arith)
+  pub slot-image : (byte : ℕ) → isSlot (eventOf byte) ≡ true → turnImage image i state (slotOf byte) level ≡ turnImage image i state byte level
+  unfolding slotByte isOverdrive turnImage passedOver eventOf nextBodyAsIs heardBodyAsIs hears
+  slot-image byte e =
+      slot-bytes (λ (v : ℕ). turnImage image i state (slotOf v) level ≡ turnImage image i state v level) byte e refl refl refl refl
 
-  pub slot-copied : (byte : ℕ) (level : Bool) → byte < 2 → turnCopied image i state 1 level ≡ turnCopied image i state byte level
-  unfolding turnCopied passedOver eventOf copiedAsIs heardCopiedAsIs hears
-  slot-copied zero level h = refl
-  slot-copied (suc zero) level h = refl
-  slot-copied (suc (suc byte)) level h = absurd (omega arith)
+  pub slot-copied : (byte : ℕ) → isSlot (eventOf byte) ≡ true
+      → turnCopied image i state (slotOf byte) level ≡ turnCopied image i state byte level
+  unfolding slotByte isOverdrive turnCopied passedOver eventOf copiedAsIs heardCopiedAsIs hears
+  slot-copied byte e =
+      slot-bytes (λ (v : ℕ). turnCopied image i state (slotOf v) level ≡ turnCopied image i state v level) byte e refl refl refl refl
+
+-- the level of a reset or a pulse
+module _ (level : Bool) (d : Device) where
+  other-state-as-is : (event : Event) → isSlot event ≡ false → nextStateAsIs event true d ≡ nextStateAsIs event level d
+  unfolding isSlot nextStateAsIs heardStateAsIs
+  other-state-as-is (Slot sent) e = absurd (true≢false e)
+  other-state-as-is Reset e = refl
+  other-state-as-is Pulse e = refl
+  other-state-as-is (OverdriveSlot sent) e = absurd (true≢false e)
+  other-state-as-is OverdriveReset e = refl
+
+  other-body-as-is : (event : Event) → isSlot event ≡ false → nextBodyAsIs event true d ≡ nextBodyAsIs event level d
+  unfolding isSlot nextBodyAsIs heardBodyAsIs
+  other-body-as-is (Slot sent) e = absurd (true≢false e)
+  other-body-as-is Reset e = refl
+  other-body-as-is Pulse e = refl
+  other-body-as-is (OverdriveSlot sent) e = absurd (true≢false e)
+  other-body-as-is OverdriveReset e = refl
+
+  other-copied-as-is : (event : Event) → isSlot event ≡ false → copiedAsIs event true d ≡ copiedAsIs event level d
+  unfolding isSlot copiedAsIs heardCopiedAsIs
+  other-copied-as-is (Slot sent) e = absurd (true≢false e)
+  other-copied-as-is Reset e = refl
+  other-copied-as-is Pulse e = refl
+  other-copied-as-is (OverdriveSlot sent) e = absurd (true≢false e)
+  other-copied-as-is OverdriveReset e = refl
+
+module _ (image : List ℕ) (i : ℕ) (state : LineState) (level : Bool) (byte : ℕ) (other : isSlot (eventOf byte) ≡ false) where
+  other-state : turnState image i state byte true ≡ turnState image i state byte level
+  unfolding turnState
+  other-state = ap (cond (passedOver byte state) state) (other-state-as-is level (deviceIn image i state) (eventOf byte) other)
+
+  other-image : turnImage image i state byte true ≡ turnImage image i state byte level
+  unfolding turnImage
+  other-image =
+      ap (λ (body : List ℕ). cond (passedOver byte state) image (imageWithBody image (placeIn image i) body))
+      (other-body-as-is level (deviceIn image i state) (eventOf byte) other)
+
+  other-copied : turnCopied image i state byte true ≡ turnCopied image i state byte level
+  unfolding turnCopied
+  other-copied = ap (cond (passedOver byte state) 0) (other-copied-as-is level (deviceIn image i state) (eventOf byte) other)
+
+-- ---- an event that is not a slot
+
+pub other-over : (byte : ℕ) → isSlot (eventOf byte) ≡ false → 2 ≤ byte
+unfolding isSlot eventOf
+other-over zero e = absurd (true≢false e)
+other-over (suc zero) e = absurd (true≢false e)
+other-over (suc (suc byte)) e = omega arith
+
+-- one that is not a reset is the pulse
+pub other-pulse : (byte : ℕ) → isSlot (eventOf byte) ≡ false → (byte ≡ 2 → ⊥) → (byte ≡ 6 → ⊥) → eventOf byte ≡ Pulse
+unfolding isSlot eventOf
+other-pulse zero e h k = absurd (true≢false e)
+other-pulse (suc zero) e h k = absurd (true≢false e)
+other-pulse (suc (suc zero)) e h k = absurd (h refl)
+other-pulse (suc (suc (suc zero))) e h k = refl
+other-pulse (suc (suc (suc (suc zero)))) e h k = absurd (true≢false e)
+other-pulse (suc (suc (suc (suc (suc zero))))) e h k = absurd (true≢false e)
+other-pulse (suc (suc (suc (suc (suc (suc zero)))))) e h k = absurd (k refl)
+other-pulse (suc (suc (suc (suc (suc (suc (suc byte))))))) e h k = over-six (suc (suc (suc (suc (suc (suc (suc byte))))))) (omega arith)
 
 -- ---- a device that waits is not stored again
 
@@ -212,16 +413,18 @@ set-same [] i = refl
 set-same (state ∷ lines) zero = refl
 set-same (state ∷ lines) (suc i) = ap (λ (l : List LineState). state ∷ l) (set-same lines i)
 
-pub idle-line : (image : List ℕ) (i : ℕ) (level : Bool) (lines : List LineState) → waits (lineAt lines i) ≡ true
-    → set lines i (turnState image i (lineAt lines i) 1 level) ≡ lines
-unfolding turnState passedOver
-idle-line image i level lines idle = rw idle (set-same lines i)
+pub idle-line : (image : List ℕ) (i : ℕ) (overdrive level : Bool) (lines : List LineState) → waits (lineAt lines i) ≡ true
+    → set lines i (turnState image i (lineAt lines i) (slotByte overdrive) level) ≡ lines
+idle-line image i overdrive level lines idle =
+    ap (λ (s : LineState). set lines i s) (idle-slot-state image i (lineAt lines i) idle level overdrive) ∙ set-same lines i
 
-pub idle-turn : (level : Bool) (i : ℕ) (s : BusState) → waits (lineAt (s .lines) i) ≡ true → turnAt 1 level i s ≡ s
-unfolding turnAt turnImage passedOver
-idle-turn level i s idle =
-    ap (λ (l : List LineState). busState (turnImage (s .image) i (lineAt (s .lines) i) 1 level) l) (idle-line (s .image) i level (s .lines) idle)
-    ∙ rw idle
+pub idle-turn : (overdrive level : Bool) (i : ℕ) (s : BusState) → waits (lineAt (s .lines) i) ≡ true
+    → turnAt (slotByte overdrive) level i s ≡ s
+unfolding turnAt
+idle-turn overdrive level i s idle = λ j.
+    busState
+    (idle-slot-image (s .image) i (lineAt (s .lines) i) idle level overdrive j)
+    (idle-line (s .image) i overdrive level (s .lines) idle j)
 
 pub added-none : (sum : ℕ) → addedTo sum 0 ≡ sum
 unfolding addedTo
@@ -263,32 +466,55 @@ module _ (v w : ℕ) (l k : Bool)
     turns-same zero s = refl
     turns-same (suc i) s = ap (turnAt v l i) (turns-same i s) ∙ turn-same i (turnsUpTo w k i s)
 
--- the bytes that they copy
-idle-copied-one : (level : Bool) (i : ℕ) (s : BusState) → waits (lineAt (s .lines) i) ≡ true
-    → turnCopied (s .image) i (lineAt (s .lines) i) 1 level ≡ 0
-unfolding turnCopied passedOver
-idle-copied-one level i s idle = rw idle
+    -- the bytes that they copy
+    module _ (copied-same : (image : List ℕ) (i : ℕ) (state : LineState) → turnCopied image i state v l ≡ turnCopied image i state w k) where
+      pub all-copied-same : (i : ℕ) (s : BusState) → copiedUpTo v l i s ≡ copiedUpTo w k i s
+      unfolding copiedUpTo
+      all-copied-same zero s = refl
+      all-copied-same (suc i) s = λ j.
+          let before = turns-same i s j in
+          addedTo (all-copied-same i s j) (copied-same (before .image) i (lineAt (before .lines) i) j)
 
 -- a device that waits copies none
-pub idle-copied-more : (level : Bool) (i sum : ℕ) (s : BusState) → waits (lineAt (s .lines) i) ≡ true
-    → addedTo sum (turnCopied (s .image) i (lineAt (s .lines) i) 1 level) ≡ sum
-idle-copied-more level i sum s idle = ap (addedTo sum) (idle-copied-one level i s idle) ∙ added-none sum
+pub idle-copied-more : (overdrive level : Bool) (i sum : ℕ) (s : BusState) → waits (lineAt (s .lines) i) ≡ true
+    → addedTo sum (turnCopied (s .image) i (lineAt (s .lines) i) (slotByte overdrive) level) ≡ sum
+idle-copied-more overdrive level i sum s idle =
+    ap (addedTo sum) (idle-slot-copied (s .image) i (lineAt (s .lines) i) idle level overdrive) ∙ added-none sum
 
-pub turns-slot : (byte : ℕ) (level : Bool) (n : ℕ) (s : BusState) → byte < 2 → turnsUpTo 1 level n s ≡ turnsUpTo byte level n s
-turns-slot byte level n s h =
-    turns-same 1 byte level level (λ image i state. slot-state image i state byte level h) (λ image i state. slot-image image i state byte level h) n s
+-- what the master sends in a slot has no part in it
+module _ (byte : ℕ) (level : Bool) (slot : isSlot (eventOf byte) ≡ true) where
+  pub turns-slot : (n : ℕ) (s : BusState) → turnsUpTo (slotOf byte) level n s ≡ turnsUpTo byte level n s
+  turns-slot =
+      turns-same (slotOf byte) byte level level (λ image i state. slot-state image i state level byte slot)
+      (λ image i state. slot-image image i state level byte slot)
 
-pub copied-slot : (byte : ℕ) (level : Bool) (n : ℕ) (s : BusState) → byte < 2
-    → copiedUpTo 1 level n s ≡ copiedUpTo byte level n s
-unfolding copiedUpTo
-copied-slot byte level zero s h = refl
-copied-slot byte level (suc i) s h = λ j.
-    let before = turns-slot byte level i s h j in
-    addedTo (copied-slot byte level i s h j)
-    (slot-copied (before .image) i (lineAt (before .lines) i) byte level h j)
+  pub copied-slot : (n : ℕ) (s : BusState) → copiedUpTo (slotOf byte) level n s ≡ copiedUpTo byte level n s
+  copied-slot =
+      all-copied-same (slotOf byte) byte level level (λ image i state. slot-state image i state level byte slot)
+      (λ image i state. slot-image image i state level byte slot) (λ image i state. slot-copied image i state level byte slot)
 
-pub states-slot : (image : List ℕ) (lines : List LineState) (n byte : ℕ) (level : Bool) → byte < 2
-    → turnStatesOf image lines n 1 level ≡ turnStatesOf image lines n byte level
-unfolding turnStatesOf
-states-slot image lines n byte level h =
-    ap (λ (l : List LineState). l ++ drop n lines) (turned-same 1 byte level level (λ image i state. slot-state image i state byte level h) image 0 (take n lines))
+  pub states-slot : (image : List ℕ) (lines : List LineState) (n : ℕ)
+      → turnStatesOf image lines n (slotOf byte) level ≡ turnStatesOf image lines n byte level
+  unfolding turnStatesOf
+  states-slot image lines n =
+      ap (λ (l : List LineState). l ++ drop n lines)
+      (turned-same (slotOf byte) byte level level (λ image i state. slot-state image i state level byte slot) image 0 (take n lines))
+
+-- nor has the level of another event
+module _ (byte : ℕ) (level : Bool) (other : isSlot (eventOf byte) ≡ false) where
+  pub turns-other : (n : ℕ) (s : BusState) → turnsUpTo byte true n s ≡ turnsUpTo byte level n s
+  turns-other =
+      turns-same byte byte true level (λ image i state. other-state image i state level byte other)
+      (λ image i state. other-image image i state level byte other)
+
+  pub copied-other : (n : ℕ) (s : BusState) → copiedUpTo byte true n s ≡ copiedUpTo byte level n s
+  copied-other =
+      all-copied-same byte byte true level (λ image i state. other-state image i state level byte other)
+      (λ image i state. other-image image i state level byte other) (λ image i state. other-copied image i state level byte other)
+
+  pub states-other : (image : List ℕ) (lines : List LineState) (n : ℕ)
+      → turnStatesOf image lines n byte true ≡ turnStatesOf image lines n byte level
+  unfolding turnStatesOf
+  states-other image lines n =
+      ap (λ (l : List LineState). l ++ drop n lines)
+      (turned-same byte byte true level (λ image i state. other-state image i state level byte other) image 0 (take n lines))

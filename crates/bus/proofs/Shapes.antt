@@ -25,6 +25,12 @@ looks-on-shape = record {
 abbrev pub hears-shape : Shape
 hears-shape = record { lifetimes = 0; outlives = []; kinds = dataK (num w8) ∷ dataK line ∷ []; gives = truth }
 
+abbrev pub is-slot-shape : Shape
+is-slot-shape = record { lifetimes = 0; outlives = []; kinds = dataK (num w8) ∷ []; gives = truth }
+
+abbrev pub is-overdrive-shape : Shape
+is-overdrive-shape = record { lifetimes = 0; outlives = []; kinds = dataK (num w8) ∷ []; gives = truth }
+
 abbrev pub leaves-high-shape : Shape
 leaves-high-shape = record { lifetimes = 0; outlives = []; kinds = dataK (num w8) ∷ dataK line ∷ []; gives = truth }
 
@@ -74,7 +80,7 @@ abbrev pub slot-shape : Shape
 slot-shape = record {
   lifetimes = 1;
   outlives = [];
-  kinds = mutK 0 tt u8 ∷ dataK (num w64) ∷ dataK line ∷ dataK truth ∷ [];
+  kinds = mutK 0 tt u8 ∷ dataK (num w64) ∷ dataK line ∷ dataK truth ∷ dataK truth ∷ [];
   gives = slot-turn;
 }
 
@@ -82,7 +88,7 @@ abbrev pub read-slot-shape : Shape
 read-slot-shape = record {
   lifetimes = 1;
   outlives = [];
-  kinds = shrK 0 tt u8 ∷ dataK (num w64) ∷ dataK line ∷ dataK truth ∷ [];
+  kinds = shrK 0 tt u8 ∷ dataK (num w64) ∷ dataK line ∷ dataK truth ∷ dataK truth ∷ [];
   gives = line;
 }
 
@@ -90,7 +96,7 @@ abbrev pub turn-shape : Shape
 turn-shape = record {
   lifetimes = 1;
   outlives = [];
-  kinds = mutK 0 tt u8 ∷ dataK (num w64) ∷ dataK line ∷ dataK (num w8) ∷ dataK truth ∷ [];
+  kinds = mutK 0 tt u8 ∷ dataK (num w64) ∷ dataK line ∷ dataK (num w8) ∷ [];
   gives = slot-turn;
 }
 
@@ -98,7 +104,7 @@ abbrev pub read-turn-shape : Shape
 read-turn-shape = record {
   lifetimes = 1;
   outlives = [];
-  kinds = shrK 0 tt u8 ∷ dataK (num w64) ∷ dataK line ∷ dataK (num w8) ∷ dataK truth ∷ [];
+  kinds = shrK 0 tt u8 ∷ dataK (num w64) ∷ dataK line ∷ dataK (num w8) ∷ [];
   gives = line;
 }
 
@@ -123,7 +129,7 @@ abbrev pub slot-all-shape : Shape
 slot-all-shape = record {
   lifetimes = 2;
   outlives = [];
-  kinds = mutK 0 tt u8 ∷ mutK 1 tt R ∷ dataK (num w64) ∷ dataK truth ∷ [];
+  kinds = mutK 0 tt u8 ∷ mutK 1 tt R ∷ dataK (num w64) ∷ dataK truth ∷ dataK truth ∷ [];
   gives = num w64;
 }
 
@@ -131,7 +137,7 @@ abbrev pub turn-all-shape : Shape
 turn-all-shape = record {
   lifetimes = 2;
   outlives = [];
-  kinds = mutK 0 tt u8 ∷ mutK 1 tt R ∷ dataK (num w64) ∷ dataK (num w8) ∷ dataK truth ∷ [];
+  kinds = mutK 0 tt u8 ∷ mutK 1 tt R ∷ dataK (num w64) ∷ dataK (num w8) ∷ [];
   gives = num w64;
 }
 
@@ -155,7 +161,7 @@ abbrev pub read-slot-all-shape : Shape
 read-slot-all-shape = record {
   lifetimes = 2;
   outlives = [];
-  kinds = shrK 0 tt u8 ∷ mutK 1 tt R ∷ dataK (num w64) ∷ dataK truth ∷ [];
+  kinds = shrK 0 tt u8 ∷ mutK 1 tt R ∷ dataK (num w64) ∷ dataK truth ∷ dataK truth ∷ [];
   gives = nil;
 }
 
@@ -163,7 +169,7 @@ abbrev pub read-turn-all-shape : Shape
 read-turn-all-shape = record {
   lifetimes = 2;
   outlives = [];
-  kinds = shrK 0 tt u8 ∷ mutK 1 tt R ∷ dataK (num w64) ∷ dataK (num w8) ∷ dataK truth ∷ [];
+  kinds = shrK 0 tt u8 ∷ mutK 1 tt R ∷ dataK (num w64) ∷ dataK (num w8) ∷ [];
   gives = nil;
 }
 

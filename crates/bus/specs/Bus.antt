@@ -36,6 +36,21 @@ eventOf byte =
     (cond (eqb byte 5) (OverdriveSlot true)
     (cond (eqb byte 6) OverdriveReset Pulse)))))
 
+-- An event is a slot or not, and it comes at overdrive or not. A program pulse has no speed.
+unfoldable pub isSlot : Event → Bool
+isSlot (Slot sent) = true
+isSlot Reset = false
+isSlot Pulse = false
+isSlot (OverdriveSlot sent) = true
+isSlot OverdriveReset = false
+
+unfoldable pub isOverdrive : Event → Bool
+isOverdrive (Slot sent) = false
+isOverdrive Reset = false
+isOverdrive Pulse = false
+isOverdrive (OverdriveSlot sent) = true
+isOverdrive OverdriveReset = true
+
 -- A line state that a device cannot be in counts as waiting, at regular speed.
 unfoldable pub takenState : Device → LineState
 takenState d = orWaiting (d .state) (d .kind) (d .body)

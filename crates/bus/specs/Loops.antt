@@ -57,6 +57,11 @@ nextBodyAsIs event level d = cond (hears event (d .state)) (heardBodyAsIs event 
 unfoldable pub copiedAsIs : Event → Bool → Device → ℕ
 copiedAsIs event level d = cond (hears event (d .state)) (heardCopiedAsIs event level d) 0
 
+-- What the master sends in a slot has no part in a device's turn, which is given the level: the slot in which it sends
+-- 1 stands for both slots at its speed.
+unfoldable pub slotByte : Bool → ℕ
+slotByte overdrive = cond overdrive 5 1
+
 -- A device that waits at regular speed is passed over in a regular slot.
 unfoldable pub passedOver : ℕ → LineState → Bool
 passedOver byte state = ltb byte 2 && waits state

@@ -8,23 +8,23 @@ use image::ACCEPTED;
 use kind::Kind;
 ghost use mathlib.Core.Path.{_≡_};
 ghost use Prim.Native.Nat.{_≤_};
-ghost use mathlib.Core.Bool.{true, not, cond, _||_};
+ghost use mathlib.Core.Bool.{true, false, not, cond, _||_};
 ghost use lib.ListN.{length};
 ghost use lib.Dec.{eqb, ltb};
 ghost use Rattle.image.specs.Image.{countOf, kindAt};
 ghost use Rattle.image.specs.Refusal.{someBelow};
 ghost use Rattle.kind.specs.Kind.{isEprom};
-ghost use Rattle.bus.specs.Bus.{eventOf, hears};
+ghost use Rattle.bus.specs.Bus.{eventOf, hears, unheardState, isSlot, isOverdrive};
 ghost use Rattle.bus.specs.Refusal.{someByte, badTrace, noFirstReset, badPulse, noRunRoom};
 ghost use Rattle.bus.specs.Refusal.{runRefusal};
 ghost use Rattle.bus.specs.Run.{RunLeaves, runOf, runResult};
 ghost use Rattle.bus.specs.Loops.{placeIn, askedOf, goesOnAt, scanWhere, turnState, turnImage, leavesHigh};
-ghost use Rattle.bus.specs.Loops.{imageWithBody, kindIn, bodyIn};
+ghost use Rattle.bus.specs.Loops.{slotByte, imageWithBody, bodyIn};
 ghost use Rattle.bus.specs.Loops.{turnCopied, slotTurn, addedTo, copiedUpTo, copiedOn, eventResult};
 ghost use Rattle.bus.specs.Loops.{copiedByEvents};
 ghost use Rattle.bus.specs.Loops.{fewerOf, scanOn, stepOn};
 ghost use Rattle.bus.specs.Loops.{turnStatesOf, busState, turnsUpTo, filledUpTo, runState, runEventsUpTo};
-ghost use Rattle.device.specs.Device.{waitingState, resetAt, stateAfterSlotAsIs, bodyAfterSlotAsIs, bytesInSlotAsIs};
+ghost use Rattle.device.specs.Device.{waitingState, resetAt};
 ghost use Rattle.device.specs.Device.{bodyAfterResetAsIs, stateAfterPulseAsIs, bodyAfterPulseAsIs};
 
 // An event on the line is a slot in which the master sends a bit, a reset, or a program pulse; slots and resets come at
@@ -106,6 +106,20 @@ fn hears(byte: u8, state: LineState) -> bool
         Event::OverdriveSlot(_) => state.overdrive,
         Event::OverdriveReset => state.overdrive,
     }
+}
+
+// The slots are events 0 and 1 at regular speed, and 4 and 5 at overdrive.
+fn is_slot(byte: u8) -> bool
+    ensures { λ r. ⌜ r ≡ isSlot (eventOf byte) ⌝ }
+{
+    (byte < 2) | (byte == 4) | (byte == 5)
+}
+
+// The events at overdrive are 4, 5 and 6. The program pulse has no speed.
+fn is_overdrive(byte: u8) -> bool
+    ensures { λ r. ⌜ r ≡ isOverdrive (eventOf byte) ⌝ }
+{
+    (3 < byte) & (byte < 7)
 }
 
 // In an event a device leaves the line high if it does not hear it, or if it answers with a 1: in a slot it answers
@@ -200,25 +214,6 @@ fn scan_of(byte: u8, high: bool, looked: usize) -> Scan
     }
 }
 
-// This is what a slot at a level leaves of device i, which hears it. A run's line states are in range from the first
-// event on (proofs/Ranges.antt), so that no range is tested here.
-fn heard_slot(image: &mut [u8], i: usize, state: LineState, level: bool) -> SlotTurn
-    ensures { λ r. ⌜ (r ≡ slotTurn
-        (stateAfterSlotAsIs state (kindIn (now (image .entry)) i) (bodyIn (now (image .entry)) i) level)
-        (bytesInSlotAsIs state (kindIn (now (image .entry)) i) (bodyIn (now (image .entry)) i) level))
-        × (now (image .exit) ≡ imageWithBody (now (image .entry)) (placeIn (now (image .entry)) i)
-        (bodyAfterSlotAsIs state (kindIn (now (image .entry)) i) (bodyIn (now (image .entry)) i) level)) ⌝ }
-{
-    let place = place_of(image, i);
-    let kind = place.kind;
-    let start = place.start;
-    let end = place.end;
-    let stepped = state.slot_as_is(kind, &mut image[start..end], level);
-    let next = stepped.next;
-    let copied = stepped.bytes() as u64;
-    SlotTurn { next, copied }
-}
-
 // This is what a reset leaves of device i, which hears it.
 fn heard_reset(image: &mut [u8], i: usize, state: LineState, overdrive: bool) -> SlotTurn
     ensures { λ r. ⌜ (r ≡ slotTurn (resetAt overdrive) 0)
@@ -245,16 +240,30 @@ fn heard_pulse(image: &mut [u8], i: usize, state: LineState) -> SlotTurn
     SlotTurn { next, copied: 0 }
 }
 
-// This is device i's part in a regular slot at a level. A device at overdrive does not hear it and then waits at
-// regular speed. Inside a transfer a slot only shifts the register, and a device that waits has no part in it: a body
-// is looked for only in the last slot of a transfer.
-fn slot(image: &mut [u8], i: usize, state: LineState, level: bool) -> SlotTurn
-    ensures { λ r. ⌜ (r ≡ slotTurn (turnState (now (image .entry)) i state 1 level)
-        (turnCopied (now (image .entry)) i state 1 level))
-        × (now (image .exit) ≡ turnImage (now (image .entry)) i state 1 level) ⌝ }
+// A slot that a device does not hear, as it comes at the other speed, leaves it in this line state: after an overdrive
+// slot it is as it was, and after a regular slot a device at overdrive waits at regular speed.
+fn unheard(state: LineState, overdrive: bool) -> LineState
+    ensures { λ r. ⌜ r ≡ unheardState (eventOf (slotByte overdrive)) state ⌝ }
 {
-    if state.overdrive {
-        let next = LineState::waiting();
+    if overdrive {
+        state
+    } else {
+        LineState::waiting()
+    }
+}
+
+// This is device i's part in a slot at a level, where `overdrive` tells at which speed the slot comes. Inside a
+// transfer a slot only shifts the register, and a device that waits has no part in it: a body is looked for only in the
+// last slot of a transfer. A run's line states are in range from the first event on (proofs/Ranges.antt), so that no
+// range is tested here. The last slot stands here and not in a function of its own: one with two callers is not
+// inlined, and a line state that goes to it through memory costs more than all else in a slot.
+fn slot(image: &mut [u8], i: usize, state: LineState, overdrive: bool, level: bool) -> SlotTurn
+    ensures { λ r. ⌜ (r ≡ slotTurn (turnState (now (image .entry)) i state (slotByte overdrive) level)
+        (turnCopied (now (image .entry)) i state (slotByte overdrive) level))
+        × (now (image .exit) ≡ turnImage (now (image .entry)) i state (slotByte overdrive) level) ⌝ }
+{
+    if state.overdrive != overdrive {
+        let next = unheard(state, overdrive);
         return SlotTurn { next, copied: 0 };
     }
     if state.goes_on() {
@@ -267,7 +276,14 @@ fn slot(image: &mut [u8], i: usize, state: LineState, level: bool) -> SlotTurn
             copied: 0,
         };
     }
-    heard_slot(image, i, state, level)
+    let place = place_of(image, i);
+    let kind = place.kind;
+    let start = place.start;
+    let end = place.end;
+    let stepped = state.slot_as_is(kind, &mut image[start..end], level);
+    let next = stepped.next;
+    let copied = stepped.bytes() as u64;
+    SlotTurn { next, copied }
 }
 
 // Bytes copied are added to a sum, which stays at the largest number where it would pass it. No run comes near: 64
@@ -319,18 +335,6 @@ fn run_result(number: u32, copied: u64) -> RunResult
     RunResult { number, copied }
 }
 
-// This is device i's line state after a slot at a level, which it hears, for a search, which only reads the bodies.
-fn read_heard_slot(image: &[u8], i: usize, state: LineState, level: bool) -> LineState
-    ensures { λ r. ⌜ r
-        ≡ stateAfterSlotAsIs state (kindIn (now (image .entry)) i) (bodyIn (now (image .entry)) i) level ⌝ }
-{
-    let place = place_of(image, i);
-    let kind = place.kind;
-    let start = place.start;
-    let end = place.end;
-    state.step_as_is(kind, &image[start..end], level)
-}
-
 // This is device i's line state after a program pulse, where the body is only read.
 fn read_heard_pulse(image: &[u8], i: usize, state: LineState) -> LineState
     ensures { λ r. ⌜ r ≡ stateAfterPulseAsIs state (bodyIn (now (image .entry)) i) ⌝ }
@@ -341,12 +345,12 @@ fn read_heard_pulse(image: &[u8], i: usize, state: LineState) -> LineState
     state.pulsed_as_is(&image[start..end])
 }
 
-// This is device i's line state after a regular slot at a level, for a search, which only reads the bodies.
-fn read_slot(image: &[u8], i: usize, state: LineState, level: bool) -> LineState
-    ensures { λ r. ⌜ r ≡ turnState (now (image .entry)) i state 1 level ⌝ }
+// This is device i's line state after a slot at a level, for a search, which only reads the bodies.
+fn read_slot(image: &[u8], i: usize, state: LineState, overdrive: bool, level: bool) -> LineState
+    ensures { λ r. ⌜ r ≡ turnState (now (image .entry)) i state (slotByte overdrive) level ⌝ }
 {
-    if state.overdrive {
-        return LineState::waiting();
+    if state.overdrive != overdrive {
+        return unheard(state, overdrive);
     }
     if state.goes_on() {
         return state.shifted(level);
@@ -354,37 +358,38 @@ fn read_slot(image: &[u8], i: usize, state: LineState, level: bool) -> LineState
     if state.waits() {
         return state;
     }
-    read_heard_slot(image, i, state, level)
+    let place = place_of(image, i);
+    let kind = place.kind;
+    let start = place.start;
+    let end = place.end;
+    state.step_as_is(kind, &image[start..end], level)
 }
 
-// This is device i's part in an event that is not a regular slot and that it hears.
-fn turn(image: &mut [u8], i: usize, state: LineState, byte: u8, level: bool) -> SlotTurn
-    requires { ⌜ (2 ≤ byte) × (hears (eventOf byte) state ≡ true) ⌝ }
-    ensures { λ r. ⌜ (r ≡ slotTurn (turnState (now (image .entry)) i state byte level)
-        (turnCopied (now (image .entry)) i state byte level))
-        × (now (image .exit) ≡ turnImage (now (image .entry)) i state byte level) ⌝ }
+// This is device i's part in a reset or a program pulse that it hears. No slot comes here, so that an event that is not
+// a reset is the pulse. The level has no part in it, and is 1 in the contract.
+fn turn(image: &mut [u8], i: usize, state: LineState, byte: u8) -> SlotTurn
+    requires { ⌜ (isSlot (eventOf byte) ≡ false) × (hears (eventOf byte) state ≡ true) ⌝ }
+    ensures { λ r. ⌜ (r ≡ slotTurn (turnState (now (image .entry)) i state byte true)
+        (turnCopied (now (image .entry)) i state byte true))
+        × (now (image .exit) ≡ turnImage (now (image .entry)) i state byte true) ⌝ }
 {
-    match event_of(byte) {
-        Event::Slot(_) => heard_slot(image, i, state, level),
-        Event::Reset => heard_reset(image, i, state, false),
-        Event::Pulse => heard_pulse(image, i, state),
-        Event::OverdriveSlot(_) => heard_slot(image, i, state, level),
-        Event::OverdriveReset => heard_reset(image, i, state, true),
+    match byte {
+        2 => heard_reset(image, i, state, false),
+        6 => heard_reset(image, i, state, true),
+        _ => heard_pulse(image, i, state),
     }
 }
 
-// This is device i's line state after an event that is not a regular slot and that it hears, for a search, which only
-// reads the bodies.
-fn read_turn(image: &[u8], i: usize, state: LineState, byte: u8, level: bool) -> LineState
-    requires { ⌜ (2 ≤ byte) × (hears (eventOf byte) state ≡ true) ⌝ }
-    ensures { λ r. ⌜ r ≡ turnState (now (image .entry)) i state byte level ⌝ }
+// This is device i's line state after a reset or a program pulse that it hears, for a search, which only reads the
+// bodies.
+fn read_turn(image: &[u8], i: usize, state: LineState, byte: u8) -> LineState
+    requires { ⌜ (isSlot (eventOf byte) ≡ false) × (hears (eventOf byte) state ≡ true) ⌝ }
+    ensures { λ r. ⌜ r ≡ turnState (now (image .entry)) i state byte true ⌝ }
 {
-    match event_of(byte) {
-        Event::Slot(_) => read_heard_slot(image, i, state, level),
-        Event::Reset => LineState::at_reset(false),
-        Event::Pulse => read_heard_pulse(image, i, state),
-        Event::OverdriveSlot(_) => read_heard_slot(image, i, state, level),
-        Event::OverdriveReset => LineState::at_reset(true),
+    match byte {
+        2 => LineState::at_reset(false),
+        6 => LineState::at_reset(true),
+        _ => read_heard_pulse(image, i, state),
     }
 }
 
@@ -541,21 +546,29 @@ pub fn level(lines: &[LineState], n: usize, byte: u8) -> Scan
     scan_of(byte, high, looked)
 }
 
-// Each of the first n devices has its part in a regular slot at a level, one after the other; no device's part depends
-// on another's. The bytes that they copy are added up. Regular slots have a loop of their own, as nearly all events are
-// such slots, and each device's part in one is short.
-fn slot_all(image: &mut [u8], lines: &mut [LineState], n: usize, level: bool) -> u64
+// Each of the first n devices has its part in a slot at a level, one after the other, where `overdrive` tells at which
+// speed the slot comes; no device's part depends on another's. The bytes that they copy are added up. A device that
+// waits at regular speed is passed over, as a slot at either speed leaves it as it is. Slots have a loop of their own,
+// as nearly all events are slots, and each device's part in one is short.
+fn slot_all(
+    image: &mut [u8],
+    lines: &mut [LineState],
+    n: usize,
+    overdrive: bool,
+    level: bool,
+) -> u64
     requires { ⌜ n ≤ length (now lines) ⌝ }
-    ensures { λ r. ⌜ (r ≡ copiedUpTo 1 level n (busState (now (image .entry)) (now (lines .entry))))
+    ensures { λ r. ⌜ (r
+        ≡ copiedUpTo (slotByte overdrive) level n (busState (now (image .entry)) (now (lines .entry))))
         × (busState (now (image .exit)) (now (lines .exit))
-        ≡ turnsUpTo 1 level n (busState (now (image .entry)) (now (lines .entry)))) ⌝ }
+        ≡ turnsUpTo (slotByte overdrive) level n (busState (now (image .entry)) (now (lines .entry)))) ⌝ }
 {
     let mut copied: u64 = 0;
     let mut i: usize = 0;
     while i < n {
         let state = lines[i];
         if !state.waits() {
-            let after = slot(image, i, state, level);
+            let after = slot(image, i, state, overdrive, level);
             lines[i] = state_after(after);
             copied = add_turn(copied, after);
         }
@@ -564,20 +577,20 @@ fn slot_all(image: &mut [u8], lines: &mut [LineState], n: usize, level: bool) ->
     copied
 }
 
-// Each of the first n devices that hears it has its part in an event at a level that is not a regular slot; the others
-// stay as they are. The bytes that they copy are added up.
-fn turn_all(image: &mut [u8], lines: &mut [LineState], n: usize, byte: u8, level: bool) -> u64
-    requires { ⌜ (n ≤ length (now lines)) × (2 ≤ byte) ⌝ }
-    ensures { λ r. ⌜ (r ≡ copiedUpTo byte level n (busState (now (image .entry)) (now (lines .entry))))
+// Each of the first n devices that hears it has its part in a reset or a program pulse; the others stay as they are.
+// The bytes that they copy are added up. The level has no part in it, and is 1 in the contract.
+fn turn_all(image: &mut [u8], lines: &mut [LineState], n: usize, byte: u8) -> u64
+    requires { ⌜ (n ≤ length (now lines)) × (isSlot (eventOf byte) ≡ false) ⌝ }
+    ensures { λ r. ⌜ (r ≡ copiedUpTo byte true n (busState (now (image .entry)) (now (lines .entry))))
         × (busState (now (image .exit)) (now (lines .exit))
-        ≡ turnsUpTo byte level n (busState (now (image .entry)) (now (lines .entry)))) ⌝ }
+        ≡ turnsUpTo byte true n (busState (now (image .entry)) (now (lines .entry)))) ⌝ }
 {
     let mut copied: u64 = 0;
     let mut i: usize = 0;
     while i < n {
         let state = lines[i];
         if hears(byte, state) {
-            let after = turn(image, i, state, byte, level);
+            let after = turn(image, i, state, byte);
             lines[i] = state_after(after);
             copied = add_turn(copied, after);
         }
@@ -594,10 +607,11 @@ fn step_event(image: &mut [u8], lines: &mut [LineState], n: usize, byte: u8, lev
         ≡ turnsUpTo byte level n (busState (now (image .entry)) (now (lines .entry)))) ⌝ }
 {
     let mut copied: u64 = 0;
-    if byte < 2 {
-        copied = slot_all(image, lines, n, level);
+    if is_slot(byte) {
+        let overdrive = is_overdrive(byte);
+        copied = slot_all(image, lines, n, overdrive, level);
     } else {
-        copied = turn_all(image, lines, n, byte, level);
+        copied = turn_all(image, lines, n, byte);
     }
     copied
 }
@@ -616,33 +630,35 @@ pub fn step(image: &mut [u8], lines: &mut [LineState], n: usize, byte: u8) -> Ev
     event_result(scan, copied)
 }
 
-// This leaves the line states of the first n devices as a regular slot at a level does. The image is only read.
-fn read_slot_all(image: &[u8], lines: &mut [LineState], n: usize, level: bool)
+// This leaves the line states of the first n devices as a slot at a level does, where `overdrive` tells at which speed
+// the slot comes. The image is only read.
+fn read_slot_all(image: &[u8], lines: &mut [LineState], n: usize, overdrive: bool, level: bool)
     requires { ⌜ n ≤ length (now lines) ⌝ }
-    ensures { λ _. ⌜ now (lines .exit) ≡ turnStatesOf (now (image .entry)) (now (lines .entry)) n 1 level ⌝ }
+    ensures { λ _. ⌜ now (lines .exit)
+        ≡ turnStatesOf (now (image .entry)) (now (lines .entry)) n (slotByte overdrive) level ⌝ }
 {
     let mut i: usize = 0;
     while i < n {
         let state = lines[i];
         if !state.waits() {
-            let next = read_slot(image, i, state, level);
+            let next = read_slot(image, i, state, overdrive, level);
             lines[i] = next;
         }
         i = i + 1;
     }
 }
 
-// This leaves the line states of the first n devices as an event at a level that is not a regular slot does. The image
-// is only read.
-fn read_turn_all(image: &[u8], lines: &mut [LineState], n: usize, byte: u8, level: bool)
-    requires { ⌜ (n ≤ length (now lines)) × (2 ≤ byte) ⌝ }
-    ensures { λ _. ⌜ now (lines .exit) ≡ turnStatesOf (now (image .entry)) (now (lines .entry)) n byte level ⌝ }
+// This leaves the line states of the first n devices as a reset or a program pulse does. The image is only read. The
+// level has no part in it, and is 1 in the contract.
+fn read_turn_all(image: &[u8], lines: &mut [LineState], n: usize, byte: u8)
+    requires { ⌜ (n ≤ length (now lines)) × (isSlot (eventOf byte) ≡ false) ⌝ }
+    ensures { λ _. ⌜ now (lines .exit) ≡ turnStatesOf (now (image .entry)) (now (lines .entry)) n byte true ⌝ }
 {
     let mut i: usize = 0;
     while i < n {
         let state = lines[i];
         if hears(byte, state) {
-            let next = read_turn(image, i, state, byte, level);
+            let next = read_turn(image, i, state, byte);
             lines[i] = next;
         }
         i = i + 1;
@@ -655,10 +671,11 @@ pub fn step_all(image: &[u8], lines: &mut [LineState], n: usize, byte: u8, level
     ensures { λ _. ⌜ now (lines .exit) ≡ turnStatesOf (now (image .entry)) (now (lines .entry)) n byte level ⌝ }
 {
     let served = fewer(n, lines.len());
-    if byte < 2 {
-        read_slot_all(image, lines, served, level);
+    if is_slot(byte) {
+        let overdrive = is_overdrive(byte);
+        read_slot_all(image, lines, served, overdrive, level);
     } else {
-        read_turn_all(image, lines, served, byte, level);
+        read_turn_all(image, lines, served, byte);
     }
 }
 

@@ -19,11 +19,11 @@ use Rattle.eprom.specs.Eprom.{epromCommand, epromNext, epromPulse, epromProgram
 use Rattle.device.specs.Device.{memoryCommand, memoryNext, stageNext, stageSpeed, speedAfterSlot, memoryWrite, stageWrite, memoryReset, stageReset, memoryPulse, stagePulse, memoryProgram, stageProgram, sendsAsIs, transferAfterSlot, stateAfterSlotAsIs, bodyAfterSlotAsIs, bodyAfterResetAsIs, stateAfterPulseAsIs, bodyAfterPulseAsIs}
 use Rattle.device.specs.Device.{memoryCopy, stageCopy, copyInSlotAsIs, copyInSlot, bytesInSlot}
 use Rattle.device.specs.Device.{memoryRange, stageRange, lineStateInRange as stateInRange, orWaiting, sendsOf, stateAfterSlot, bodyAfterSlot, bodyAfterReset, stateAfterPulse, bodyAfterPulse}
-use Rattle.bus.specs.Bus.{eventOf, pullsLow, someLow, levelOf, nextState, nextBody, nextDevice, busStepAt, busStep, withAnswer, runTrace}
+use Rattle.bus.specs.Bus.{eventOf, pullsLow, someLow, levelOf, nextState, nextBody, nextDevice, busStepAt, busStep, withAnswer, runTrace, isSlot, isOverdrive}
 use Rattle.bus.specs.Bus.{copiedIn, copiedByAll, copiedInTrace}
 use Rattle.bus.specs.Refusal.{someByte, badTrace, noFirstReset, badPulse, noRunRoom, runCauses, runRefusal}
 use Rattle.bus.specs.Run.{devicesFrom, waitingDevices, bodiesOf, leftByRun, runAt, runOf}
-use Rattle.judge.specs.Rules.{isSlot, isOverdrive, heardSlot, passedOver, isLast, isCommand, isMemoryCommand, completes, isHighByte, isAddressEnd, isWriteAddress, writes, isMade, acceptsCopy, bitsFrom, wantedBits, showsBits, someReadShows, someWrite, shownSinceWrite, momentsOf, countBelow}
+use Rattle.judge.specs.Rules.{heardSlot, passedOver, isLast, isCommand, isMemoryCommand, completes, isHighByte, isAddressEnd, isWriteAddress, writes, isMade, acceptsCopy, bitsFrom, wantedBits, showsBits, someReadShows, someWrite, shownSinceWrite, momentsOf, countBelow}
 use Rattle.bus.specs.Bus.{takenState, hears, answersLow, masterHigh, heardState, heardBody, unheardState, heardCopied}
 use Rattle.judge.specs.declared.Verdict.the-variants.{Accepted}
 use Rattle.judge.specs.Judge.{none as nowhere, orHere}

@@ -20,13 +20,13 @@ use Rattle.device.specs.declared.LineState.{LineState}
 use Rattle.device.specs.Device.{lineState, resetAt, stateAfterSlotAsIs, stageRange}
 use Rattle.bus.specs.declared.Event.{Event}
 use Rattle.bus.specs.declared.Event.the-variants.{Reset, OverdriveReset}
-use Rattle.bus.specs.Bus.{deviceWith, eventOf, takenState, hears, unheardState}
+use Rattle.bus.specs.Bus.{deviceWith, eventOf, takenState, hears, unheardState, isSlot, isOverdrive}
 use Rattle.bus.specs.Loops.{heardStateAsIs, nextStateAsIs}
 use Rattle.judge.specs.declared.Mark.{Mark}
 use Rattle.judge.specs.declared.Mark.the-variants.{Unmarked, Wrote, Reads}
 use Rattle.judge.specs.declared.Part.{Part}
 use Rattle.judge.specs.declared.Back.{Back}
-use Rattle.judge.specs.Rules.{Moment, isSlot, isOverdrive, heardSlot, passedOver, isLast, isMemoryCommand, isWriteAddress, completes, writes, bitsFrom, wantedBits, showsBits, someReadShows, someWrite, shownSinceWrite}
+use Rattle.judge.specs.Rules.{Moment, heardSlot, passedOver, isLast, isMemoryCommand, isWriteAddress, completes, writes, bitsFrom, wantedBits, showsBits, someReadShows, someWrite, shownSinceWrite}
 use Rattle.judge.specs.Loops.{levelAt, slotAt, passedAt, lineNext, wantedBytes, wantedBit, shownFrom, readShown, partSo, partBy, partAt, partOver, backTo, overdriveBefore, beginsPart, backBy, backOver, partFrom, backAt, backFrom, carefulBy, carefulAt}
 use Rattle.judge.proofs.Way.{Off, off-next, off-speed, Alike, same, alike-speed, hears-speed, event-alike, slot-next, passed-next, wroteIn, readsIn, mark-is, alike-wrote, alike-reads, reads-off, reads-speed, both-true, reads-heard, fast-before}
 

@@ -20,11 +20,11 @@ use Rattle.line.specs.Transfers.{goesOn, received}
 use Rattle.sram.specs.declared.CopyDone.the-variants.{NoCopy}
 use Rattle.device.specs.declared.LineState.{LineState}
 use Rattle.device.specs.Device.{waitingState, stageCopy, copyInSlotAsIs, copyInSlot, lineStateInRange, orWaiting}
-use Rattle.bus.specs.Bus.{Device, eventOf, takenState, hears, runTrace}
+use Rattle.bus.specs.Bus.{Device, eventOf, takenState, hears, runTrace, isSlot}
 use Rattle.bus.specs.Run.{leftByRun, runAt, runOf}
 use Rattle.bus.specs.Refusal.{runRefusal}
 use Rattle.judge.specs.declared.Verdict.the-variants.{Accepted}
-use Rattle.judge.specs.Rules.{Moment, isSlot, heardSlot, isLast, isMemoryCommand, atMemoryCommand, completes, isMade, acceptsCopy, wantedBits, shownSinceWrite}
+use Rattle.judge.specs.Rules.{Moment, heardSlot, isLast, isMemoryCommand, atMemoryCommand, completes, isMade, acceptsCopy, wantedBits, shownSinceWrite}
 use Rattle.judge.specs.Rules.{deviceAt, devicesAt, momentAt, momentsOf, breaksA, countBelow, breaksB, breaksC}
 use Rattle.judge.specs.Refusal.{judgeRefusal}
 use Rattle.judge.specs.Judge.{First, none, orHere, firstBelow, verdictBy, verdictOf, leftByJudge, judgeAt, judgeOf}

@@ -36,11 +36,11 @@ use Rattle.device.specs.declared.LineState.{LineState}
 use Rattle.device.specs.Device.{lineState, waitingState, resetAt, memoryCommand, memoryNext, stageNext, stageSpeed, transferAfterSlot, speedAfterSlot, stateAfterSlotAsIs, memoryPulse, stagePulse, stateAfterPulseAsIs, memoryRange, stageRange}
 use Rattle.bus.specs.declared.Event.{Event}
 use Rattle.bus.specs.declared.Event.the-variants.{Slot, Reset, Pulse, OverdriveSlot, OverdriveReset}
-use Rattle.bus.specs.Bus.{Device, deviceWith, hears, unheardState}
+use Rattle.bus.specs.Bus.{Device, deviceWith, hears, unheardState, isSlot, isOverdrive}
 use Rattle.bus.specs.Loops.{heardStateAsIs, nextStateAsIs}
 use Rattle.judge.specs.declared.Mark.{Mark}
 use Rattle.judge.specs.declared.Mark.the-variants.{Unmarked, Wrote, Reads}
-use Rattle.judge.specs.Rules.{isSlot, isOverdrive, isCommand, isMemoryCommand, isHighByte, isAddressEnd, isWriteAddress}
+use Rattle.judge.specs.Rules.{isCommand, isMemoryCommand, isHighByte, isAddressEnd, isWriteAddress}
 use Rattle.judge.specs.Loops.{sramDoing, memoryDoing, doingOf, slotAt, afterSlotAt, markBy, markOf}
 
 -- ---- the ROM stage depends on the code alone

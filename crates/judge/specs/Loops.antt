@@ -21,9 +21,8 @@ use Rattle.device.specs.declared.LineState.{LineState}
 use Rattle.device.specs.Device.{lineState, waitingState, resetAt, stateAfterSlotAsIs}
 use Rattle.recording.specs.Recorded.{agreesAt}
 use Rattle.bus.specs.declared.Place.{Place}
-use Rattle.bus.specs.Bus.{deviceWith, eventOf, hears}
+use Rattle.bus.specs.Bus.{deviceWith, eventOf, hears, isSlot, isOverdrive}
 use Rattle.bus.specs.Loops.{placeIn, nextStateAsIs, lineAt, levelOn, busState, turnsUpTo}
-use Rattle.judge.specs.Rules.{isSlot, isOverdrive}
 use Rattle.judge.specs.declared.Rule.{Rule}
 use Rattle.judge.specs.declared.Rule.the-variants as rules
 use Rattle.judge.specs.declared.Verdict.{Verdict}

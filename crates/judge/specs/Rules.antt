@@ -24,8 +24,8 @@ use Rattle.sram.specs.declared.CopyDone.the-variants.{NoCopy, Made}
 use Rattle.sram.specs.Sram.{targetOffset, endingOffset}
 use Rattle.device.specs.Device.{waitingState, copyInSlot}
 use Rattle.bus.specs.declared.Event.{Event}
-use Rattle.bus.specs.declared.Event.the-variants.{Slot, Reset, Pulse, OverdriveSlot, OverdriveReset}
-use Rattle.bus.specs.Bus.{Device, deviceWith, eventOf, takenState, hears, levelOf, busStep, runTrace}
+use Rattle.bus.specs.Bus.{Device, deviceWith, eventOf, isSlot, isOverdrive, takenState, hears, levelOf, busStep}
+use Rattle.bus.specs.Bus.{runTrace}
 
 -- ---- one device at one event
 
@@ -34,20 +34,6 @@ pub record Moment : Type 0 where
   pub event : Event
   pub level : Bool
   pub device : Device
-
-unfoldable pub isSlot : Event → Bool
-isSlot (Slot sent) = true
-isSlot Reset = false
-isSlot Pulse = false
-isSlot (OverdriveSlot sent) = true
-isSlot OverdriveReset = false
-
-unfoldable pub isOverdrive : Event → Bool
-isOverdrive (Slot sent) = false
-isOverdrive Reset = false
-isOverdrive Pulse = false
-isOverdrive (OverdriveSlot sent) = true
-isOverdrive OverdriveReset = true
 
 abbrev pub heard : Moment → Bool
 heard m = hears (m .event) (takenState (m .device))

@@ -12,11 +12,11 @@ use Rattle.image.specs.Image.{countOf}
 use Rattle.image.specs.Refusal.{imageRefusal}
 use Rattle.bus.specs.declared.Event.{Event}
 use Rattle.bus.specs.declared.Event.the-variants.{Slot, Reset, Pulse, OverdriveSlot, OverdriveReset}
-use Rattle.bus.specs.Bus.{Device, eventOf, busStep, withAnswer, runTrace}
+use Rattle.bus.specs.Bus.{Device, eventOf, busStep, withAnswer, runTrace, isSlot}
 use Rattle.bus.specs.Refusal.{runRefusal}
 use Rattle.bus.specs.Run.{waitingDevices, RunOutcome, leftByRun, runAt, runOf}
 use Rattle.judge.specs.declared.Verdict.the-variants.{Accepted}
-use Rattle.judge.specs.Rules.{isSlot, devicesAt}
+use Rattle.judge.specs.Rules.{devicesAt}
 use Rattle.judge.specs.Refusal.{judgeRefusal}
 use Rattle.judge.specs.Judge.{verdictOf, leftByJudge, judgeAt, judgeOf}
 use Rattle.judge.proofs.Laws.{judged-room}

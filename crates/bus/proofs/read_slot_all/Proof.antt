@@ -21,7 +21,7 @@ use mathlib.Core.Bool.{Bool, not}
 use Rattle.device.specs.declared.LineState.{LineState}
 use Rattle.device.specs.Device.{waitingState}
 use Rattle.device.specs.Device.{waits as waitsOf}
-use Rattle.bus.specs.Loops.{turnState, lineAt}
+use Rattle.bus.specs.Loops.{turnState, lineAt, slotByte}
 use Rattle.bus.proofs.Idle.{idle-line}
 use Rattle.bus.proofs.States.{steps, steps-length, steps-upto}
 use Rattle.bus.proofs.Lines.{width, fits-at, fits-next, T-false, R, mach, typed, line}
@@ -39,7 +39,7 @@ use Rattle.bus.proofs.read_slot_all as read-slot-all
 use Rattle.bus.proofs.read_slot_all.Statement as stated
 use Rattle.bus.proofs.read_slot_all.Code as code
 
-abbrev Ask : (κs : Lfts 2) → RefT (List ℕ) × (RefT (List LineState) × (ℕ × (Bool × Unit {0}))) → Type 0
+abbrev Ask : (κs : Lfts 2) → RefT (List ℕ) × (RefT (List LineState) × (ℕ × (Bool × (Bool × Unit {0})))) → Type 0
 Ask κs a = a .1 .1 .0 ≤ length (a .1 .0 .now)
 
 module _ {M : Type 1} (𝓤 : URA M) (H : Heap 𝓤) (A : Atoms 𝓤) (W : Given 𝓤 H A) (mem : Memory → SProp 𝓤)
@@ -47,7 +47,7 @@ module _ {M : Type 1} (𝓤 : URA M) (H : Heap 𝓤) (A : Atoms 𝓤) (W : Given
     (𝓣 : Tables 𝓤 H)
     (known-waits : Met 𝓤 H A 𝓣 waits-shape (waits.clauses 𝓤 H A mem run) #device·waits)
     (known-read-slot : Met 𝓤 H A 𝓣 read-slot-shape (read-slot.clauses 𝓤 H A mem run) #bus·read-slot)
-    (κs : Lfts 2) (qs : Shares 2) (x : RefT (List ℕ)) (x′ : RefT (List LineState)) (n : ℕ) (t : Bool) where
+    (κs : Lfts 2) (qs : Shares 2) (x : RefT (List ℕ)) (x′ : RefT (List LineState)) (n : ℕ) (f t : Bool) where
   abbrev im : List ℕ
   im = x .now
 
@@ -60,15 +60,19 @@ module _ {M : Type 1} (𝓤 : URA M) (H : Heap 𝓤) (A : Atoms 𝓤) (W : Given
   abbrev o : ℕ
   o = x′ .ptr .1
 
+  -- the byte of the slot
+  abbrev v : ℕ
+  v = slotByte f
+
   -- the line states after i turns, that of device i, and what `read_slot` returns of it
   abbrev st : ℕ → List LineState
-  st i = steps im 1 t i ys
+  st i = steps im v t i ys
 
   abbrev l : ℕ → LineState
   l i = lineAt (st i) i
 
   abbrev r : ℕ → LineState
-  r i = turnState im i (l i) 1 t
+  r i = turnState im i (l i) v t
 
   -- whether device i waits
   abbrev w : ℕ → Bool
@@ -76,7 +80,7 @@ module _ {M : Type 1} (𝓤 : URA M) (H : Heap 𝓤) (A : Atoms 𝓤) (W : Given
 
   -- the locals after i turns, and behind them [the row; the open borrow; the image's token; the image]
   abbrev vs : ℕ → List Cell
-  vs i = has (val x) ∷ has (val x′) ∷ has (vint w64 n) ∷ has (vbool t) ∷ has (vint w64 i) ∷ []
+  vs i = has (val x) ∷ has (val x′) ∷ has (vint w64 n) ∷ has (vbool f) ∷ has (vbool t) ∷ has (vint w64 i) ∷ []
 
   abbrev AtWith : Blocks (code.function .locals) → ℕ → List LineState → List (Item 𝓤)
   AtWith bs i zs = stand (env 𝓤 H (code.function .locals) bs) (void ∷ vs i)
@@ -91,25 +95,25 @@ module _ {M : Type 1} (𝓤 : URA M) (H : Heap 𝓤) (A : Atoms 𝓤) (W : Given
       → Sq W (AtWith bs i zs) (prop (post 𝓤 H Q next)) → Sq W (AtWith bs i zs′) (prop (post 𝓤 H Q next))
   as-same Q bs i e k = subst (λ (zs : List LineState). Sq W (AtWith bs i zs) (prop (post 𝓤 H Q next))) e k
 
-  walk : Walk 𝓤 H shape A W (read-slot-all.clauses 𝓤 H A mem run) Ask 𝓣 code.function κs qs tt (x, (x′, (n, (t, tt)))) tt
+  walk : Walk 𝓤 H shape A W (read-slot-all.clauses 𝓤 H A mem run) Ask 𝓣 code.function κs qs tt (x, (x′, (n, (f, (t, tt))))) tt
   unfolding steps
   walk are few =
       let room : Room R (length ys) = are .1 .0 .0 .1 in
       let n-is : Is u64 n (vint w64 n ∷ []) = are .1 .1 .0 in
-      enters ! shape κs (x, (x′, (n, (t, tt)))) 𝓣 code.function are refl (λ bs.
+      enters ! shape κs (x, (x′, (n, (f, (t, tt))))) 𝓣 code.function are refl (λ bs.
       new ! (of-opd ! (lit ! tt)) refl (tt, record { fits = lit< tt }) $
-      move ! (19 ∷ 17 ∷ []) $ opens-mut ! tt R (κs .1 .0) x′ $ lowers ! 2 16 $
+      move ! (20 ∷ 18 ∷ []) $ opens-mut ! tt R (κs .1 .0) x′ $ lowers ! 2 17 $
       whiles ! 𝓣 n (At bs) (λ i. var ! refl) (λ i. var ! refl) refl (λ i. refl) (λ i t. refl) (λ i t. refl)
       -- a turn of one device: its line state is copied, and it is asked whether it waits
       (λ i Q small k.
       let there : i < length ys = omega (arith, small, few) in
-      let within : i < length (st i) = subst (λ (m : ℕ). i < m) (sym (steps-length im 1 t i ys)) there in
+      let within : i < length (st i) = subst (λ (m : ℕ). i < m) (sym (steps-length im v t i ys)) there in
       let at-fits : i * width < 2 ^ 64 = fits-at i (length ys) (room .1) there in
       let next-fits : i + 1 < 2 ^ 64 = fits-next i n (n-is .1) small in
       new ! (bin ! (var ! refl) (lit ! tt) (record { fits = at-fits })) refl (tt, record { fits = at-fits }) $
       points ! width i (head ! refl refl) (var ! refl) refl tt $
-      sees ! line 16 fullShare (st i) i waitingState b o within refl (λ is.
-      new ! (of-opd ! (elem ! refl (in-row ! line 16 fullShare (st i) i waitingState b o within refl refl))) refl
+      sees ! line 17 fullShare (st i) i waitingState b o within refl (λ is.
+      new ! (of-opd ! (elem ! refl (in-row ! line 17 fullShare (st i) i waitingState b o within refl refl))) refl
       (typed 𝓤 H A W (l i) (mach (l i)) is) $
       new ! (of-opd ! (var ! refl)) refl (typed 𝓤 H A W (l i) (mach (l i)) is) $
       asks ! 𝓣 waits-shape (waits.clauses 𝓤 H A mem run) known-waits tt tt tt (l i, tt) (mach (l i) ∷ [], tt) tt (is, tt)
@@ -119,32 +123,32 @@ module _ {M : Type 1} (𝓤 : URA M) (H : Heap 𝓤) (A : Atoms 𝓤) (W : Given
       -- it does not wait: the new line state is stored
       (λ Q′ on awake.
       asks ! 𝓣 read-slot-shape (read-slot.clauses 𝓤 H A mem run) known-read-slot (κs .0, tt) (qs .0, tt) tt
-      (x, (i, (l i, (t, tt))))
-      (val x ∷ [], (vint w64 i ∷ [], (mach (l i) ∷ [], (vbool t ∷ [], tt)))) tt
-      ((refl, omega (arith, next-fits)), (is, (refl, tt))) (id⊢ 𝓤 _) (λ h ws. h ≡ r i) (λ h ws. id⊢ 𝓤 _)
-      (r i) (tt, (tt, (tt, (tt, tt)))) (λ h ws e. (e, refl))
-      (also ! refl (also ! refl (also ! refl (also ! refl (no-more !))))) (18 ∷ 19 ∷ []) refl (λ got _.
+      (x, (i, (l i, (f, (t, tt)))))
+      (val x ∷ [], (vint w64 i ∷ [], (mach (l i) ∷ [], (vbool f ∷ [], (vbool t ∷ [], tt))))) tt
+      ((refl, omega (arith, next-fits)), (is, (refl, (refl, tt)))) (id⊢ 𝓤 _) (λ h ws. h ≡ r i) (λ h ws. id⊢ 𝓤 _)
+      (r i) (tt, (tt, (tt, (tt, (tt, tt))))) (λ h ws e. (e, refl))
+      (also ! refl (also ! refl (also ! refl (also ! refl (also ! refl (no-more !)))))) (19 ∷ 20 ∷ []) refl (λ got _.
       lands-new ! refl (typed 𝓤 H A W (r i) (mach (r i)) got) $
       new ! (bin ! (var ! refl) (lit ! tt) (record { fits = at-fits })) refl (tt, record { fits = at-fits }) $
       points ! width i (head ! refl refl) (var ! refl) refl tt $
-      assigns-last ! (of-opd ! (var ! refl)) (from ! (hop ! (look ! 14 refl) (stop !)))
-      (onto-row ! line 16 (st i) i waitingState (r i) b o within refl refl got (typed 𝓤 H A W (r i) (mach (r i)) got)) $
-      on _ (bump ! refl next-fits tt $ forget ! 6 refl $ forget ! 7 refl $ forget ! 8 refl $ forget ! 9 refl $
-      forget ! 10 refl $ forget ! 11 refl $ forget ! 12 refl $ forget ! 13 refl $ forget ! 14 refl $ k)))
+      assigns-last ! (of-opd ! (var ! refl)) (from ! (hop ! (look ! 15 refl) (stop !)))
+      (onto-row ! line 17 (st i) i waitingState (r i) b o within refl refl got (typed 𝓤 H A W (r i) (mach (r i)) got)) $
+      on _ (bump ! refl next-fits tt $ forget ! 7 refl $ forget ! 8 refl $ forget ! 9 refl $ forget ! 10 refl $
+      forget ! 11 refl $ forget ! 12 refl $ forget ! 13 refl $ forget ! 14 refl $ forget ! 15 refl $ k)))
       -- it waits, and stays as it is
       (λ Q′ on idle. skips ! $ on _ (
-      bump ! refl next-fits tt $ forget ! 6 refl $ forget ! 8 refl $ forget ! 9 refl $ forget ! 10 refl $
-      forget ! 11 refl $ forget ! 12 refl $
-      as-same Q bs (suc i) (idle-line im i t (st i) (not-false (w i) (T-false (not (w i)) idle))) k)))))
+      bump ! refl next-fits tt $ forget ! 7 refl $ forget ! 9 refl $ forget ! 10 refl $ forget ! 11 refl $
+      forget ! 12 refl $ forget ! 13 refl $
+      as-same Q bs (suc i) (idle-line im i f t (st i) (not-false (w i) (T-false (not (w i)) idle))) k)))))
       -- the loop is left: the borrow is closed, and the function returns
       (new ! (of-opd ! (unit-lit !)) refl (tt, tt) $
-      move ! (16 ∷ 17 ∷ []) $ closes-mut ! tt R (κs .1 .0) (x′ .name) ys (st n) (steps-length im 1 t n ys) b o room $
-      lowers ! 2 16 $
+      move ! (17 ∷ 18 ∷ []) $ closes-mut ! tt R (κs .1 .0) (x′ .name) ys (st n) (steps-length im v t n ys) b o room $
+      lowers ! 2 17 $
       returns ! (look ! 0 refl) $ quits ! (has vunit ∷ vs n) $ move ! (2 ∷ 1 ∷ 3 ∷ 0 ∷ []) $
-      finishes 𝓤 H shape A (read-slot-all.clauses 𝓤 H A mem run) κs qs tt (x, (x′, (n, (t, tt)))) tt W ! tt
-      (tt, (st n, (tt, (tt, tt)))) refl
-      (n-is, (refl, tt)) (tt, (steps-length im 1 t n ys, (tt, (tt, tt))))
-      (factI 𝓤 _ (emp 𝓤) (steps-upto im 1 t n ys few))))
+      finishes 𝓤 H shape A (read-slot-all.clauses 𝓤 H A mem run) κs qs tt (x, (x′, (n, (f, (t, tt))))) tt W ! tt
+      (tt, (st n, (tt, (tt, (tt, tt))))) refl
+      (n-is, (refl, (refl, tt))) (tt, (steps-length im v t n ys, (tt, (tt, (tt, tt)))))
+      (factI 𝓤 _ (emp 𝓤) (steps-upto im v t n ys few))))
 
 pub read-slot-all-spec : {M : Type 1} → stated.statement M
 unfolding code.routine tablesOf
@@ -154,4 +158,4 @@ read-slot-all-spec 𝓤 H 𝓜 𝓖 𝓡 =
     (λ κs qs bounds a g. walk 𝓤 H (𝓖 .A) (givenOf 𝓤 H 𝓜 𝓖) (𝓜 .mem) (𝓡 .run) (tablesOf 𝓤 H 𝓜 (tables 𝓤 H 𝓜 𝓡 code.env))
     (cited 𝓤 H _ 𝓜 𝓡 code.env #device·waits waits-def.routine code.calls-device·LineState·waits (waits-thm.met 𝓤 H 𝓜 𝓖 𝓡))
     (cited 𝓤 H _ 𝓜 𝓡 code.env #bus·read-slot read-slot-def.routine code.calls-bus·read-slot (read-slot-thm.met 𝓤 H 𝓜 𝓖 𝓡))
-    κs qs (a .0) (a .1 .0) (a .1 .1 .0) (a .1 .1 .1 .0))
+    κs qs (a .0) (a .1 .0) (a .1 .1 .0) (a .1 .1 .1 .0) (a .1 .1 .1 .1 .0))

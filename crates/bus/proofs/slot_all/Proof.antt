@@ -2,9 +2,9 @@
 -- line state.
 -- The lines' borrow is opened once, before the loop, and closed once, after it. The image is held closed, and in each
 -- turn it is lent again for a lifetime of the call, and comes back.
--- The state after i turns is `turnsUpTo 1 t i` of the state on entry (`specs/Loops.antt`), by recursion on i, so the
+-- The state after i turns is `turnsUpTo v t i` of the state on entry (`specs/Loops.antt`), by recursion on i, so the
 -- invariant holds at i + 1 by computation.
--- The sum after i turns is `copiedUpTo 1 t i`, likewise; it stays below 2 ^ 64 (`copied-fits`).
+-- The sum after i turns is `copiedUpTo v t i`, likewise; it stays below 2 ^ 64 (`copied-fits`).
 -- All that it knows of its callees is that each meets its contract.
 -- Assumes nothing. `Walk.antt` of `walks` says how a walk is written.
 use Rattle.walks.proofs.Walk.{_≡_, refl, sym, ap, subst, ℕ, suc, _<_, _≤_, _+_, _*_, _^_, arith, [], _∷_, List, length}
@@ -24,7 +24,7 @@ use Rattle.device.specs.Device.{waitingState}
 use Rattle.device.specs.Device.{waits as waitsOf}
 use Rattle.bus.specs.declared.SlotTurn.{SlotTurn}
 use Rattle.bus.specs.Loops.{turnState, turnCopied, slotTurn, lineAt, BusState, busState, turnsUpTo, turnAt}
-use Rattle.bus.specs.Loops.{copiedUpTo}
+use Rattle.bus.specs.Loops.{copiedUpTo, slotByte}
 use Rattle.bus.proofs.Idle.{idle-turn, idle-copied-more}
 use Rattle.bus.proofs.Laws.{turns-image-length, turns-lines-length, copied-fits}
 use Rattle.bus.proofs.Lines.{width, fits-at, fits-next, T-false, R, mach, typed, line, slot-turn}
@@ -50,7 +50,7 @@ use Rattle.bus.proofs.slot_all as slot-all
 use Rattle.bus.proofs.slot_all.Statement as stated
 use Rattle.bus.proofs.slot_all.Code as code
 
-abbrev Ask : (κs : Lfts 2) → RefT (List ℕ) × (RefT (List LineState) × (ℕ × (Bool × Unit {0}))) → Type 0
+abbrev Ask : (κs : Lfts 2) → RefT (List ℕ) × (RefT (List LineState) × (ℕ × (Bool × (Bool × Unit {0})))) → Type 0
 Ask κs a = a .1 .1 .0 ≤ length (a .1 .0 .now)
 
 module _ {M : Type 1} (𝓤 : URA M) (H : Heap 𝓤) (A : Atoms 𝓤) (W : Given 𝓤 H A) (mem : Memory → SProp 𝓤)
@@ -60,7 +60,7 @@ module _ {M : Type 1} (𝓤 : URA M) (H : Heap 𝓤) (A : Atoms 𝓤) (W : Given
     (known-slot : Met 𝓤 H A 𝓣 slot-shape (slot.clauses 𝓤 H A mem run) #bus·slot)
     (known-state-after : Met 𝓤 H A 𝓣 state-after-shape (state-after.clauses 𝓤 H A mem run) #bus·state-after)
     (known-add-turn : Met 𝓤 H A 𝓣 add-turn-shape (add-turn.clauses 𝓤 H A mem run) #bus·add-turn)
-    (κs : Lfts 2) (qs : Shares 2) (x : RefT (List ℕ)) (x′ : RefT (List LineState)) (n : ℕ) (t : Bool) where
+    (κs : Lfts 2) (qs : Shares 2) (x : RefT (List ℕ)) (x′ : RefT (List LineState)) (n : ℕ) (f t : Bool) where
   abbrev ys : List LineState
   ys = x′ .now
 
@@ -73,25 +73,29 @@ module _ {M : Type 1} (𝓤 : URA M) (H : Heap 𝓤) (A : Atoms 𝓤) (W : Given
   abbrev m : ℕ
   m = length (x .now)
 
+  -- the byte of the slot
+  abbrev v : ℕ
+  v = slotByte f
+
   -- the state on entry and after i turns, the sum then, the line state of device i, that after its turn, and what `slot`
   -- returns of it
   abbrev entry : BusState
   entry = busState (x .now) ys
 
   abbrev st : ℕ → BusState
-  st i = turnsUpTo 1 t i entry
+  st i = turnsUpTo v t i entry
 
   abbrev cp : ℕ → ℕ
-  cp i = copiedUpTo 1 t i entry
+  cp i = copiedUpTo v t i entry
 
   abbrev l : ℕ → LineState
   l i = lineAt (st i .lines) i
 
   abbrev r : ℕ → LineState
-  r i = turnState (st i .image) i (l i) 1 t
+  r i = turnState (st i .image) i (l i) v t
 
   abbrev tn : ℕ → SlotTurn
-  tn i = slotTurn (r i) (turnCopied (st i .image) i (l i) 1 t)
+  tn i = slotTurn (r i) (turnCopied (st i .image) i (l i) v t)
 
   -- whether device i waits
   abbrev w : ℕ → Bool
@@ -99,7 +103,7 @@ module _ {M : Type 1} (𝓤 : URA M) (H : Heap 𝓤) (A : Atoms 𝓤) (W : Given
 
   -- the locals after i turns, and behind them [the row; the open borrow; the image's token; the image]
   abbrev vsWith : ℕ → ℕ → List Cell
-  vsWith i c = has (val x) ∷ has (val x′) ∷ has (vint w64 n) ∷ has (vbool t) ∷ has (vint w64 c) ∷ has (vint w64 i) ∷ []
+  vsWith i c = has (val x) ∷ has (val x′) ∷ has (vint w64 n) ∷ has (vbool f) ∷ has (vbool t) ∷ has (vint w64 c) ∷ has (vint w64 i) ∷ []
 
   abbrev AtWith : Blocks (code.function .locals) → ℕ → BusState → ℕ → List (Item 𝓤)
   AtWith bs i s c = stand (env 𝓤 H (code.function .locals) bs) (void ∷ vsWith i c)
@@ -115,28 +119,28 @@ module _ {M : Type 1} (𝓤 : URA M) (H : Heap 𝓤) (A : Atoms 𝓤) (W : Given
   as-same Q bs i e f k =
       subst (λ (p : BusState × ℕ). Sq W (AtWith bs i (p .0) (p .1)) (prop (post 𝓤 H Q next))) (λ j. (e j, f j)) k
 
-  walk : Walk 𝓤 H shape A W (slot-all.clauses 𝓤 H A mem run) Ask 𝓣 code.function κs qs tt (x, (x′, (n, (t, tt))))
+  walk : Walk 𝓤 H shape A W (slot-all.clauses 𝓤 H A mem run) Ask 𝓣 code.function κs qs tt (x, (x′, (n, (f, (t, tt)))))
       tt
   unfolding turnsUpTo turnAt copiedUpTo
   walk are few =
       let room : Room u8 m = are .0 .0 .1 in
       let room′ : Room R (length ys) = are .1 .0 .0 .1 in
       let n-is : Is u64 n (vint w64 n ∷ []) = are .1 .1 .0 in
-      enters ! shape κs (x, (x′, (n, (t, tt)))) 𝓣 code.function are refl (λ bs.
+      enters ! shape κs (x, (x′, (n, (f, (t, tt))))) 𝓣 code.function are refl (λ bs.
       new ! (of-opd ! (lit ! tt)) refl (tt, record { fits = lit< tt }) $
       new ! (of-opd ! (lit ! tt)) refl (tt, record { fits = lit< tt }) $
-      move ! (23 ∷ 21 ∷ []) $ opens-mut ! tt R (κs .1 .0) x′ $ lowers ! 2 20 $
+      move ! (24 ∷ 22 ∷ []) $ opens-mut ! tt R (κs .1 .0) x′ $ lowers ! 2 21 $
       whiles ! 𝓣 n (At bs) (λ i. var ! refl) (λ i. var ! refl) refl (λ i. refl) (λ i t. refl) (λ i t. refl)
       -- a turn of one device: its line state is copied, and it is asked whether it waits
       (λ i Q small k.
       let there : i < length ys = omega (arith, small, few) in
-      let within : i < length (st i .lines) = subst (λ (m : ℕ). i < m) (sym (turns-lines-length 1 t i entry)) there in
+      let within : i < length (st i .lines) = subst (λ (m : ℕ). i < m) (sym (turns-lines-length v t i entry)) there in
       let at-fits : i * width < 2 ^ 64 = fits-at i (length ys) (room′ .1) there in
       let next-fits : i + 1 < 2 ^ 64 = fits-next i n (n-is .1) small in
       new ! (bin ! (var ! refl) (lit ! tt) (record { fits = at-fits })) refl (tt, record { fits = at-fits }) $
       points ! width i (head ! refl refl) (var ! refl) refl tt $
-      sees ! line 20 fullShare (st i .lines) i waitingState b o within refl (λ is.
-      new ! (of-opd ! (elem ! refl (in-row ! line 20 fullShare (st i .lines) i waitingState b o within refl refl))) refl
+      sees ! line 21 fullShare (st i .lines) i waitingState b o within refl (λ is.
+      new ! (of-opd ! (elem ! refl (in-row ! line 21 fullShare (st i .lines) i waitingState b o within refl refl))) refl
       (typed 𝓤 H A W (l i) (mach (l i)) is) $
       new ! (of-opd ! (var ! refl)) refl (typed 𝓤 H A W (l i) (mach (l i)) is) $
       asks ! 𝓣 waits-shape (waits.clauses 𝓤 H A mem run) known-waits tt tt tt (l i, tt) (mach (l i) ∷ [], tt) tt (is, tt)
@@ -146,22 +150,22 @@ module _ {M : Type 1} (𝓤 : URA M) (H : Heap 𝓤) (A : Atoms 𝓤) (W : Given
       -- it does not wait: the image is lent to `slot`
       (λ Q′ on awake.
       again ! refl refl refl refl tt (refl, refl, refl) tt (room .0) $
-      move ! (23 ∷ 22 ∷ []) $ lends ! tt u8 (κs .0) (qs .0) (to x (st i .image)) m (turns-image-length 1 t i entry)
-      (λ ν δ. lowers ! 3 20 $
+      move ! (24 ∷ 23 ∷ []) $ lends ! tt u8 (κs .0) (qs .0) (to x (st i .image)) m (turns-image-length v t i entry)
+      (λ ν δ. lowers ! 3 21 $
       asks ! 𝓣 slot-shape (slot.clauses 𝓤 H A mem run) known-slot (ν ∷ [], tt) (fullShare, tt) tt
-      (under x δ (st i .image), (i, (l i, (t, tt))))
-      (val x ∷ [], (vint w64 i ∷ [], (mach (l i) ∷ [], (vbool t ∷ [], tt)))) tt
-      ((refl, omega (arith, next-fits)), (is, (refl, tt))) (id⊢ 𝓤 _)
+      (under x δ (st i .image), (i, (l i, (f, (t, tt)))))
+      (val x ∷ [], (vint w64 i ∷ [], (mach (l i) ∷ [], (vbool f ∷ [], (vbool t ∷ [], tt))))) tt
+      ((refl, omega (arith, next-fits)), (is, (refl, (refl, tt)))) (id⊢ 𝓤 _)
       (λ h us. (h ≡ tn i) × (us .0 ≡ st (suc i) .image)) (λ h us. id⊢ 𝓤 _) (tn i)
-      (st (suc i) .image, (tt, (tt, (tt, tt))))
-      (λ h us e. (e .0, ap (λ (z : List ℕ). (z, (tt, (tt, (tt, tt))))) (e .1)))
-      (also ! refl (also ! refl (also ! refl (also ! refl (no-more !))))) (20 ∷ 21 ∷ []) refl (λ taken _.
+      (st (suc i) .image, (tt, (tt, (tt, (tt, tt)))))
+      (λ h us e. (e .0, ap (λ (z : List ℕ). (z, (tt, (tt, (tt, (tt, tt)))))) (e .1)))
+      (also ! refl (also ! refl (also ! refl (also ! refl (also ! refl (no-more !)))))) (21 ∷ 22 ∷ []) refl (λ taken _.
       lands-new ! refl (slot-turn .typed 𝓤 H A W (tn i) taken) $
       -- behind the locals: [what is lent; the row; the open borrow; the call's token; what it says of the image]
-      move ! (23 ∷ 20 ∷ 24 ∷ []) $ backs ! tt u8 (κs .0) (qs .0) (to x (st i .image)) m (turns-image-length 1 t i entry)
+      move ! (24 ∷ 21 ∷ 25 ∷ []) $ backs ! tt u8 (κs .0) (qs .0) (to x (st i .image)) m (turns-image-length v t i entry)
       room ν δ
       (st (suc i) .image) $
-      move ! (22 ∷ 23 ∷ 1 ∷ 0 ∷ []) $ lowers ! 4 20 $
+      move ! (23 ∷ 24 ∷ 1 ∷ 0 ∷ []) $ lowers ! 4 21 $
       -- the new line state is stored
       asks ! 𝓣 state-after-shape (state-after.clauses 𝓤 H A mem run) known-state-after tt tt tt (tn i, tt)
       (slot-turn .mach (tn i) ∷ [], tt) tt (taken, tt) (id⊢ 𝓤 _)
@@ -169,29 +173,29 @@ module _ {M : Type 1} (𝓤 : URA M) (H : Heap 𝓤) (A : Atoms 𝓤) (W : Given
       (also ! refl (no-more !)) [] refl (λ got _. lands-new ! refl (typed 𝓤 H A W (r i) (mach (r i)) got) $
       new ! (bin ! (var ! refl) (lit ! tt) (record { fits = at-fits })) refl (tt, record { fits = at-fits }) $
       points ! width i (head ! refl refl) (var ! refl) refl tt $
-      assigns ! (of-opd ! (var ! refl)) (from ! (hop ! (look ! 18 refl) (stop !)))
-      (onto-row ! line 20 (st i .lines) i waitingState (r i) b o within refl refl got
+      assigns ! (of-opd ! (var ! refl)) (from ! (hop ! (look ! 19 refl) (stop !)))
+      (onto-row ! line 21 (st i .lines) i waitingState (r i) b o within refl refl got
       (typed 𝓤 H A W (r i) (mach (r i)) got)) $
       -- and the bytes that it copied are added
       asks-last ! 𝓣 add-turn-shape (add-turn.clauses 𝓤 H A mem run) known-add-turn tt tt tt (cp i, (tn i, tt))
-      (vint w64 (cp i) ∷ [], (slot-turn .mach (tn i) ∷ [], tt)) tt ((refl, copied-fits 1 t i entry), (taken, tt)) (id⊢ 𝓤 _)
+      (vint w64 (cp i) ∷ [], (slot-turn .mach (tn i) ∷ [], tt)) tt ((refl, copied-fits v t i entry), (taken, tt)) (id⊢ 𝓤 _)
       (λ h ws. h ≡ cp (suc i)) (λ h ws. id⊢ 𝓤 _) (cp (suc i)) (tt, (tt, tt)) (λ h ws e. (e, refl))
       (also ! refl (also ! refl (no-more !))) [] refl
       (λ sum-is _. ends-renew ! refl (tt, record { fits = sum-is .1 }) $ on _ (
-      bump ! refl next-fits tt $ forget ! 7 refl $ forget ! 8 refl $ forget ! 9 refl $ forget ! 10 refl $ forget ! 11 refl $ forget ! 12 refl $ forget ! 13 refl $ forget ! 14 refl $ forget ! 15 refl $ forget ! 16 refl $ forget ! 17 refl $ forget ! 18 refl $ k))))))
+      bump ! refl next-fits tt $ forget ! 8 refl $ forget ! 9 refl $ forget ! 10 refl $ forget ! 11 refl $ forget ! 12 refl $ forget ! 13 refl $ forget ! 14 refl $ forget ! 15 refl $ forget ! 16 refl $ forget ! 17 refl $ forget ! 18 refl $ forget ! 19 refl $ k))))))
       -- it waits, and stays as it is
       (λ Q′ on idle. skips ! $ on _ (
-      bump ! refl next-fits tt $ forget ! 7 refl $ forget ! 9 refl $ forget ! 10 refl $ forget ! 11 refl $ forget ! 12 refl $ forget ! 13 refl $
-      as-same Q bs (suc i) (idle-turn t i (st i) (not-false (w i) (T-false (not (w i)) idle)))
-      (idle-copied-more t i (cp i) (st i) (not-false (w i) (T-false (not (w i)) idle))) k)))))
+      bump ! refl next-fits tt $ forget ! 8 refl $ forget ! 10 refl $ forget ! 11 refl $ forget ! 12 refl $ forget ! 13 refl $ forget ! 14 refl $
+      as-same Q bs (suc i) (idle-turn f t i (st i) (not-false (w i) (T-false (not (w i)) idle)))
+      (idle-copied-more f t i (cp i) (st i) (not-false (w i) (T-false (not (w i)) idle))) k)))))
       -- the loop is left: the borrow is closed, and the function returns
-      (new ! (of-opd ! (var ! refl)) refl (tt, record { fits = copied-fits 1 t n entry }) $
-      move ! (20 ∷ 21 ∷ []) $ closes-mut ! tt R (κs .1 .0) (x′ .name) ys (st n .lines) (turns-lines-length 1 t n entry)
-      b o room′ $ lowers ! 2 20 $
+      (new ! (of-opd ! (var ! refl)) refl (tt, record { fits = copied-fits v t n entry }) $
+      move ! (21 ∷ 22 ∷ []) $ closes-mut ! tt R (κs .1 .0) (x′ .name) ys (st n .lines) (turns-lines-length v t n entry)
+      b o room′ $ lowers ! 2 21 $
       returns ! (look ! 0 refl) $ quits ! (has (vint w64 (cp n)) ∷ vsWith n (cp n)) $ move ! (2 ∷ 1 ∷ 3 ∷ 0 ∷ []) $
-      finishes 𝓤 H shape A (slot-all.clauses 𝓤 H A mem run) κs qs tt (x, (x′, (n, (t, tt)))) tt W ! (cp n)
-      (st n .image, (st n .lines, (tt, (tt, tt)))) (refl, copied-fits 1 t n entry) (n-is, (refl, tt))
-      (turns-image-length 1 t n entry, (turns-lines-length 1 t n entry, (tt, (tt, tt))))
+      finishes 𝓤 H shape A (slot-all.clauses 𝓤 H A mem run) κs qs tt (x, (x′, (n, (f, (t, tt))))) tt W ! (cp n)
+      (st n .image, (st n .lines, (tt, (tt, (tt, tt))))) (refl, copied-fits v t n entry) (n-is, (refl, (refl, tt)))
+      (turns-image-length v t n entry, (turns-lines-length v t n entry, (tt, (tt, (tt, tt)))))
       (factI 𝓤 _ (emp 𝓤) (refl, refl))))
 
 pub slot-all-spec : {M : Type 1} → stated.statement M
@@ -205,4 +209,4 @@ slot-all-spec 𝓤 H 𝓜 𝓖 𝓡 =
     (cited 𝓤 H _ 𝓜 𝓡 code.env #bus·state-after state-after-def.routine code.calls-bus·state-after
     (state-after-thm.met 𝓤 H 𝓜 𝓖 𝓡))
     (cited 𝓤 H _ 𝓜 𝓡 code.env #bus·add-turn add-turn-def.routine code.calls-bus·add-turn (add-turn-thm.met 𝓤 H 𝓜 𝓖 𝓡))
-    κs qs (a .0) (a .1 .0) (a .1 .1 .0) (a .1 .1 .1 .0))
+    κs qs (a .0) (a .1 .0) (a .1 .1 .0) (a .1 .1 .1 .0) (a .1 .1 .1 .1 .0))

@@ -1,6 +1,5 @@
-use Rattle.bus.specs.Bus.{eventOf, hears}
+use Rattle.bus.specs.Bus.{eventOf, hears, isSlot}
 use Rattle.judge.specs.Loops.{bitsIn, slotAt}
-use Rattle.judge.specs.Rules.{isSlot}
 use mathlib.Core.Path.{_∙_, sym}
 use native.Mathlib.Omega.{arith}
 use borrow.Author.Needs.{needs}

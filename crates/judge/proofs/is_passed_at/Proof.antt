@@ -1,6 +1,5 @@
 use Rattle.judge.specs.Loops.{passedAt}
-use Rattle.judge.specs.Rules.{isOverdrive}
-use Rattle.bus.specs.Bus.{eventOf, hears}
+use Rattle.bus.specs.Bus.{eventOf, hears, isOverdrive}
 use borrow.Author.Tests.{ne-eqb}
 use Rattle.judge.proofs.is_passed_at.Statement.{statement}
 use Rattle.judge.proofs.is_passed_at.Tie as tie

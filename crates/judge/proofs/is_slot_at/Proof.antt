@@ -1,6 +1,5 @@
 use Rattle.judge.specs.Loops.{slotAt}
-use Rattle.judge.specs.Rules.{isSlot}
-use Rattle.bus.specs.Bus.{eventOf, hears}
+use Rattle.bus.specs.Bus.{eventOf, hears, isSlot}
 use borrow.Author.Tests.{ne-eqb}
 use Rattle.judge.proofs.is_slot_at.Statement.{statement}
 use Rattle.judge.proofs.is_slot_at.Tie as tie

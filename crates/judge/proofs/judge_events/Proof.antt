@@ -9,7 +9,7 @@
 use Rattle.walks.proofs.Walk.{Bool, false, _≡_, refl, sym, subst, _∙_, ℕ, suc, _<_, _≤_, _^_, arith, lt-irrefl, [], _∷_, _++_}
 use Rattle.walks.proofs.Walk.{List, length, getD, lit<, URA, fullShare, named, w8, w64, vint, vbool, SProp, emp, id⊢}
 use Rattle.walks.proofs.Walk.{flft, Fun, factI, Lfts, Shares, givenOf, tables, tablesOf, Memory, Routine, Heap, Tables}
-use Rattle.walks.proofs.Walk.{Atoms, Given, Item, ‵, _$_, !, move, drop, look, forget, stop, from, lit, of-opd, and-then}
+use Rattle.walks.proofs.Walk.{Atoms, Given, Item, ‵, _$_, !, move, drop, look, forget, stop, from, of-opd, and-then}
 use Rattle.walks.proofs.Walk.{no-more, returns, Is, u8, u64, RefT, ShrSlice, MutSlice, Room, cited, Cell, void, has}
 use Rattle.walks.proofs.Walk.{Blocks, env, stand, quits, lowers, Walk, Met, enters, asks, finishes, proved, var, count}
 use Rattle.walks.proofs.Walk.{new, counted-where, to, under, val, again, lands-new, lands-renew, ends-renew, also, lends}
