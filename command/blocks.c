@@ -51,18 +51,18 @@ int read_bench(struct reader *r)
 
 enum { MOST_REPEATS = 999999 };
 
+/* A bad one begins lines too, so that nothing is said of its 'end'. */
 int read_repeat(struct reader *r)
 {
     struct place *const p = r->place;
     const char *const word = next_word(r);
-    size_t times;
+    size_t times = 1;
+    const bool good = word && number_parse(&times, word, MOST_REPEATS) && times > 0;
 
-    if (!word || !number_parse(&times, word, MOST_REPEATS) || times == 0)
-        return wrong(r, "repeat", "a number from 1 to 999999", word);
     if (p->loop_count == MOST_LOOPS)
         return wrong_line(r, "repeat: more than %d inside each other", MOST_LOOPS);
-    p->loops[p->loop_count++] = (struct loop){ p->next, p->line, times };
-    return nothing_after(r, "repeat");
+    p->loops[p->loop_count++] = (struct loop){ p->next, p->line, good ? times : 1, !good };
+    return good ? nothing_after(r, "repeat") : wrong(r, "repeat", "a number from 1 to 999999", word);
 }
 
 /* After a bad line nothing is read again, so that it is said once. */

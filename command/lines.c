@@ -159,7 +159,8 @@ static void read_lines(struct reader *r)
         look_at_length(r);
     }
     for (size_t i = 0; i < p->loop_count && !r->stopped; i++)
-        r->status = bad_line(p->file, p->loops[i].line, "repeat: there is no 'end' after it");
+        if (!p->loops[i].bad)
+            r->status = bad_line(p->file, p->loops[i].line, "repeat: there is no 'end' after it");
 }
 
 int read_text(struct reader *r, const char *path)

@@ -11,6 +11,7 @@ struct loop {
     char *start;
     size_t line;
     size_t left; /* times, this one among them */
+    bool bad;    /* its line is bad, which has been said */
 };
 
 enum { MOST_LOOPS = 8, MOST_INCLUDED = 8 };
