@@ -83,8 +83,8 @@ struct Back {
     overdrive: bool,
 }
 
-// Of the devices that were looked at in an event, so many are at the memory command, one of them has completed a write
-// or copy command, and one of them accepts a copy that was not read back.
+// Of the devices that were looked at in an event, so many are at the memory command; where `completed` is true one of
+// them completes a write or copy command in it, and where `careless` is true one accepts a copy that was not read back.
 struct Seen {
     commands: usize,
     completed: bool,
@@ -809,7 +809,7 @@ pub fn event_of(verdict: Verdict) -> u64
 // ---- why a recording is not judged
 
 // A recording is refused with the number of the first cause that applies, in the order 1 to 5, 11, 6, 7; the number is
-// 0 where none does. All causes but two are the run's.
+// 0 where none does. All are the run's but two of cause 7, the lengths of the answers and of the work space.
 pub fn refusal(image: &[u8], trace: &[u8], answers: usize, work: usize, lines: usize) -> u32
     ensures { λ r. ⌜ r ≡ judgeRefusal (now (image .entry)) (now (trace .entry)) answers work lines ⌝ }
 {
