@@ -2,10 +2,10 @@
 // more than one device, and whether each copy was read back before.
 //
 // One pass over the trace runs the bench in a lent work space and looks at every device in every event, up to the first
-// that breaks a rule. Only where a device accepts a copy are the events before it looked at again, back to a reset before that device's last write. Up
-// to a memory command or a write's address, one device's way over the line depends on its code and on the levels alone,
-// so that it is followed by value from a reset on that it heard and that left it at a known speed, with the recorded
-// answers as levels; no second image is needed.
+// that breaks a rule. Only where a device accepts a copy are the events before it looked at again, back to a reset
+// before that device's last write. Up to a memory command or a write's address, one device's way over the line depends
+// on its code and on the levels alone, so that it is followed by value from a reset on that it heard and that left it
+// at a known speed, with the recorded answers as levels; no second image is needed.
 use device::LineState;
 use image::ACCEPTED;
 use kind::Kind;

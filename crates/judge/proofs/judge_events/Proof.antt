@@ -27,7 +27,8 @@ use Rattle.bus.proofs.Shapes.{step-shape}
 use Rattle.judge.specs.declared.Verdict.{Verdict}
 use Rattle.judge.specs.declared.Verdict.the-variants.{Accepted}
 use Rattle.judge.specs.declared.Seen.{Seen}
-use Rattle.judge.specs.Loops.{verdictNext, stillLookedAt, seenUpTo, JudgeState, judgeState, judgeEventAt, judgeEventsUpTo}
+use Rattle.judge.specs.Loops.{verdictNext, stillLookedAt, seenUpTo, JudgeState, judgeState, judgeEventAt}
+use Rattle.judge.specs.Loops.{judgeEventsUpTo}
 use Rattle.judge.proofs.Laws.{still-few, still-enough, judge-work-length, judge-lines-length}
 use Rattle.judge.proofs.Lines.{seen, verdict}
 use Rattle.judge.proofs.Reader.{New, Agrees, Next, mach, typed, place-in, makes, agrees-in, moves-last}
@@ -165,7 +166,8 @@ module _ {M : Type 1} (𝓤 : URA M) (H : Heap 𝓤) (A : Atoms 𝓤) (W : Given
       (28 ∷ 29 ∷ 32 ∷ 33 ∷ []) refl (lands-new ! refl (typed x x₁ 0 (room .0) (room₁ .0) (lit< tt)) $
       move ! (31 ∷ 29 ∷ 30 ∷ 28 ∷ 32 ∷ 33 ∷ 34 ∷ 35 ∷ []) $ lowers ! 8 28 $
       counted-where ! 𝓣 n (λ k. Is (verdict .type) (vd k) (verdict .mach (vd k) ∷ [])) (At bs)
-      -- a turn: the event is read, every device is looked at, the event is given to the devices, and the verdict follows
+      -- a turn: the event is read, the devices are looked at while no rule is broken, the event is given to them, and
+      -- the verdict follows
       (λ k Q small vd-is on-to.
       let len : length (st k .work) ≡ length (x₂ .now) = judge-work-length tr an m k entry in
       let len₃ : length (st k .lines) ≡ length (x₃ .now) = judge-lines-length tr an m k entry in
@@ -260,8 +262,8 @@ module _ {M : Type 1} (𝓤 : URA M) (H : Heap 𝓤) (A : Atoms 𝓤) (W : Given
       goes-out ! (var ! refl) (var ! refl) (lt-irrefl n) refl tt refl $ out _ (
       new ! (of-opd ! (var ! refl)) refl (verdict .typed 𝓤 H A W (vd n) vd-is) $
       returns ! (look ! 0 refl) $ quits
-      ! (has (verdict .mach (vd n)) ∷ vs n ++ void ∷ void ∷ void ∷ void ∷ void ∷ void ∷ has (vint w64 n) ∷ has (vint w64 n)
-      ∷ has (vbool false) ∷ []) $
+      ! (has (verdict .mach (vd n)) ∷ vs n ++ void ∷ void ∷ void ∷ void ∷ void ∷ void ∷ has (vint w64 n)
+      ∷ has (vint w64 n) ∷ has (vbool false) ∷ []) $
       move ! (4 ∷ 5 ∷ 3 ∷ 1 ∷ 6 ∷ 7 ∷ 2 ∷ 0 ∷ []) $
       finishes 𝓤 H shape A (judge-events.clauses 𝓤 H A mem run) κs qs tt a tt W ! (vd n)
       (tt, (tt, (st n .work, (st n .lines, (tt, tt))))) vd-is (m-is, tt)
