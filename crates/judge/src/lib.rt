@@ -749,8 +749,8 @@ fn verdict_next(verdict: Verdict, agrees: bool, seen: Seen, k: usize) -> Verdict
     }
 }
 
-// So many of the n devices are still looked at. Once a rule is broken only a later A changes the verdict, and what the
-// devices do has no part in that; a walk back at each further copy would be for nothing.
+// So many of the n devices are still looked at. Once a rule is broken only a later A changes the verdict, and what is
+// seen of the devices has no part in that: a walk back at each further copy would be for nothing.
 fn still_looked_at(verdict: Verdict, n: usize) -> usize
     ensures { λ r. ⌜ r ≡ stillLookedAt verdict n ⌝ }
 {
