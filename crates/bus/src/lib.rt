@@ -255,8 +255,8 @@ fn unheard(state: LineState, overdrive: bool) -> LineState
 // This is device i's part in a slot at a level, where `overdrive` tells at which speed the slot comes. Inside a
 // transfer a slot only shifts the register, and a device that waits has no part in it: a body is looked for only in the
 // last slot of a transfer. A run's line states are in range from the first event on (proofs/Ranges.antt), so that no
-// range is tested here. The last slot stands here and not in a function of its own: one with two callers is not
-// inlined, and a line state that goes to it through memory costs more than all else in a slot.
+// range is tested here. What the last slot does has no other caller: a function with two is not inlined, and a line
+// state that goes to it through memory costs more than all else in a slot.
 fn slot(image: &mut [u8], i: usize, state: LineState, overdrive: bool, level: bool) -> SlotTurn
     ensures { λ r. ⌜ (r ≡ slotTurn (turnState (now (image .entry)) i state (slotByte overdrive) level)
         (turnCopied (now (image .entry)) i state (slotByte overdrive) level))
@@ -578,7 +578,7 @@ fn slot_all(
 }
 
 // Each of the first n devices that hears it has its part in a reset or a program pulse; the others stay as they are.
-// The bytes that they copy are added up. The level has no part in it, and is 1 in the contract.
+// No byte is copied in one, so that the sum is 0. The level has no part in it, and is 1 in the contract.
 fn turn_all(image: &mut [u8], lines: &mut [LineState], n: usize, byte: u8) -> u64
     requires { ⌜ (n ≤ length (now lines)) × (isSlot (eventOf byte) ≡ false) ⌝ }
     ensures { λ r. ⌜ (r ≡ copiedUpTo byte true n (busState (now (image .entry)) (now (lines .entry))))

@@ -28,6 +28,9 @@ use Rattle.judge.specs.declared.Doing.the-variants.{Command, Address, Pa
 use Rattle.judge.specs.declared.Seen.{Seen}
 use Rattle.judge.specs.Loops.{doingOf, carelessAt, seenBy, seenWith, atMemory, seenUpTo}
 use Rattle.judge.specs.Loops.{looksBack, backAt, backFrom}
+use Rattle.judge.specs.declared.Verdict.{Verdict}
+use Rattle.judge.specs.declared.Verdict.the-variants.{Accepted, Broken, Refused}
+use Rattle.judge.specs.Loops.{verdictNext, stillLookedAt}
 
 -- ---- the part of a trace
 
@@ -290,6 +293,22 @@ seen-few trace answers image lines k (suc i) =
     doing-few (doingOf (lineAt lines i .transfer .stage)) _ _ _ (seenUpTo trace answers image lines k i) i (seen-few trace answers image lines k i)
 
 -- ---- the events of a recording
+
+-- no more devices are looked at than there are
+pub still-few : (verdict : Verdict) (n : ℕ) → stillLookedAt verdict n ≤ n
+unfolding stillLookedAt
+still-few Accepted n = omega arith
+still-few (Broken rule event) n = omega arith
+still-few (Refused number) n = omega arith
+
+-- what is no longer looked at would not change the verdict
+pub still-enough : (trace answers image : List ℕ) (lines : List LineState) (k n : ℕ) (verdict : Verdict) (agrees : Bool)
+    → verdictNext verdict agrees (seenUpTo trace answers image lines k (stillLookedAt verdict n)) k
+    ≡ verdictNext verdict agrees (seenUpTo trace answers image lines k n) k
+unfolding verdictNext stillLookedAt
+still-enough trace answers image lines k n Accepted agrees = refl
+still-enough trace answers image lines k n (Broken rule event) agrees = refl
+still-enough trace answers image lines k n (Refused number) agrees = refl
 
 pub judge-work-length : (trace answers : List ℕ) (n k : ℕ) (s : JudgeState) → length (judgeEventsUpTo trace answers n k s .work) ≡ length (s .work)
 unfolding judgeEventsUpTo judgeEventAt

@@ -53,6 +53,14 @@ look-shape = record {
   gives = seen;
 }
 
+abbrev pub still-looked-at-shape : Shape
+still-looked-at-shape = record {
+  lifetimes = 0;
+  outlives = [];
+  kinds = dataK verdict ∷ dataK (num w64) ∷ [];
+  gives = num w64;
+}
+
 abbrev pub verdict-next-shape : Shape
 verdict-next-shape = record {
   lifetimes = 0;

@@ -270,6 +270,13 @@ verdictNext Accepted agrees seen k = cond agrees (verdictHere seen k) (Broken ru
 verdictNext (Broken rule event) agrees seen k = verdictKept rule event agrees k
 verdictNext (Refused number) agrees seen k = Refused number
 
+-- So many of n devices are still looked at. Once a rule is broken only a later A changes the verdict, and what is seen
+-- of the devices has no part in that.
+unfoldable pub stillLookedAt : Verdict → ℕ → ℕ
+stillLookedAt Accepted n = n
+stillLookedAt (Broken rule event) n = 0
+stillLookedAt (Refused number) n = 0
+
 -- ---- a trace
 
 -- The first k bytes of the image are laid over the work space.

@@ -1,11 +1,11 @@
 // This crate judges a recorded session: whether the answers are the bench's, whether no write or copy command went to
 // more than one device, and whether each copy was read back before.
 //
-// One pass over the trace runs the bench in a lent work space and looks at every device in every event. Only where a
-// device accepts a copy are the events before it looked at again, back to a reset before that device's last write. Up
-// to a memory command or a write's address, one device's way over the line depends on its code and on the levels alone,
-// so that it is followed by value from a reset on that it heard and that left it at a known speed, with the recorded
-// answers as levels; no second image is needed.
+// One pass over the trace runs the bench in a lent work space and looks at every device in every event, up to the first
+// that breaks a rule. Only where a device accepts a copy are the events before it looked at again, back to a reset
+// before that device's last write. Up to a memory command or a write's address, one device's way over the line depends
+// on its code and on the levels alone, so that it is followed by value from a reset on that it heard and that left it
+// at a known speed, with the recorded answers as levels; no second image is needed.
 use device::LineState;
 use image::ACCEPTED;
 use kind::Kind;
@@ -30,7 +30,7 @@ ghost use Rattle.judge.specs.Loops.{readShown, partSo, partBy, partAt, p
 ghost use Rattle.judge.specs.Loops.{backBy, backOver, backAt, looksBack, carefulBy, carefulAt};
 ghost use Rattle.judge.specs.Loops.{patternAccepted, carelessAt, seenWith, atMemory, seenUpTo, nothingSeen};
 ghost use Rattle.judge.specs.Loops.{verdictHere, verdictKept, verdictNext, laidUpTo, judgeState};
-ghost use Rattle.judge.specs.Loops.{judgeEventsUpTo};
+ghost use Rattle.judge.specs.Loops.{judgeEventsUpTo, stillLookedAt};
 
 // Document 02's rules A, B and C: the answers are the bench's; no write or copy command goes to more than one device;
 // each copy was read back before.
@@ -83,8 +83,8 @@ struct Back {
     overdrive: bool,
 }
 
-// Of the devices that were looked at in an event, so many are at the memory command, one of them has completed a write
-// or copy command, and one of them accepts a copy that was not read back.
+// Of the devices that were looked at in an event, so many are at the memory command; where `completed` is true one of
+// them completes a write or copy command in it, and where `careless` is true one accepts a copy that was not read back.
 struct Seen {
     commands: usize,
     completed: bool,
@@ -749,6 +749,18 @@ fn verdict_next(verdict: Verdict, agrees: bool, seen: Seen, k: usize) -> Verdict
     }
 }
 
+// So many of the n devices are still looked at. Once a rule is broken only a later A changes the verdict, and what is
+// seen of the devices has no part in that: a walk back at each further copy would be for nothing.
+fn still_looked_at(verdict: Verdict, n: usize) -> usize
+    ensures { λ r. ⌜ r ≡ stillLookedAt verdict n ⌝ }
+{
+    match verdict {
+        Verdict::Accepted => n,
+        Verdict::Broken { .. } => 0,
+        Verdict::Refused(_) => 0,
+    }
+}
+
 fn accepted() -> Verdict
     ensures { λ r. ⌜ r ≡ Accepted ⌝ }
 {
@@ -809,7 +821,7 @@ pub fn event_of(verdict: Verdict) -> u64
 // ---- why a recording is not judged
 
 // A recording is refused with the number of the first cause that applies, in the order 1 to 5, 11, 6, 7; the number is
-// 0 where none does. All causes but two are the run's.
+// 0 where none does. All are the run's but two of cause 7, the lengths of the answers and of the work space.
 pub fn refusal(image: &[u8], trace: &[u8], answers: usize, work: usize, lines: usize) -> u32
     ensures { λ r. ⌜ r ≡ judgeRefusal (now (image .entry)) (now (trace .entry)) answers work lines ⌝ }
 {
@@ -859,8 +871,9 @@ fn look(trace: &[u8], answers: &[u8], image: &[u8], lines: &[LineState], n: usiz
     seen
 }
 
-// The reader of a recording goes from event to event. Each is looked at, then given to the n devices in the work space;
-// whether its level agrees with the recorded answer, and what was seen, leave the next verdict.
+// The reader of a recording goes from event to event. Each is looked at while no rule is broken, then given to the n
+// devices in the work space; whether its level agrees with the recorded answer, and what was seen, leave the next
+// verdict.
 fn judge_events(
     trace: &[u8],
     answers: &[u8],
@@ -878,7 +891,8 @@ fn judge_events(
     while recording.at < trace.len() {
         let k = recording.at;
         let byte = bits::byte_at(trace, k);
-        let seen = look(trace, answers, work, lines, n, k);
+        let looked = still_looked_at(verdict, n);
+        let seen = look(trace, answers, work, lines, looked, k);
         let result = bus::step(work, lines, n, byte);
         let agrees = recording::agrees(recording, result.level);
         verdict = verdict_next(verdict, agrees, seen, k);

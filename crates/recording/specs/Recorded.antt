@@ -1,4 +1,5 @@
--- Document 02, item 5, is stated here for one event of a recorded session: its answer as it was recorded.
+-- Document 02, item 5, is stated here for one event of a recorded session: its answer as it was recorded, and the
+-- reader's next place.
 use Prim.Native.Nat.{ℕ, suc}
 use mathlib.Core.Bool.{Bool, cond, _&&_}
 use mathlib.Core.List.{List}

@@ -13,7 +13,7 @@ use Rattle.judge.specs.Judge.{refusalOf, ruleOf, brokenAt, JudgeOutcome, judgeO
 use Rattle.search.specs.declared.Found.{Found}
 use Rattle.search.specs.Found.{SearchOutcome, searchOutcomeOf}
 
--- A count is written where a run, a search or a judgement is not refused, and else stays as it was.
+-- A number is written where a run, a search or a judgement is not refused, and else stays as it was.
 unfoldable pub countAfter : ℕ → ℕ → ℕ → ℕ
 countAfter zero count before = count
 countAfter (suc number) count before = before

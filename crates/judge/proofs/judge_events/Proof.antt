@@ -27,12 +27,13 @@ use Rattle.bus.proofs.Shapes.{step-shape}
 use Rattle.judge.specs.declared.Verdict.{Verdict}
 use Rattle.judge.specs.declared.Verdict.the-variants.{Accepted}
 use Rattle.judge.specs.declared.Seen.{Seen}
-use Rattle.judge.specs.Loops.{seenUpTo, JudgeState, judgeState, judgeEventAt, judgeEventsUpTo}
-use Rattle.judge.proofs.Laws.{judge-work-length, judge-lines-length}
+use Rattle.judge.specs.Loops.{verdictNext, stillLookedAt, seenUpTo, JudgeState, judgeState, judgeEventAt}
+use Rattle.judge.specs.Loops.{judgeEventsUpTo}
+use Rattle.judge.proofs.Laws.{still-few, still-enough, judge-work-length, judge-lines-length}
 use Rattle.judge.proofs.Lines.{seen, verdict}
 use Rattle.judge.proofs.Reader.{New, Agrees, Next, mach, typed, place-in, makes, agrees-in, moves-last}
 use Rattle.judge.proofs.Shapes.{judge-events-shape as shape, accepted-shape, byte-at-shape, look-shape}
-use Rattle.judge.proofs.Shapes.{verdict-next-shape}
+use Rattle.judge.proofs.Shapes.{still-looked-at-shape, verdict-next-shape}
 use Rattle.judge.proofs.accepted as accepted
 use Rattle.judge.proofs.accepted.Symbol as accepted-def
 use Rattle.judge.proofs.accepted.Symbol.{name as #judge·accepted}
@@ -41,6 +42,10 @@ use Rattle.bits.proofs.byte_at as byte-at
 use Rattle.bits.proofs.byte_at.Symbol as byte-at-def
 use Rattle.bits.proofs.byte_at.Symbol.{name as #bits·byte-at}
 use Rattle.bits.proofs.byte_at.Met as byte-at-thm
+use Rattle.judge.proofs.still_looked_at as still-looked-at
+use Rattle.judge.proofs.still_looked_at.Symbol as still-looked-at-def
+use Rattle.judge.proofs.still_looked_at.Symbol.{name as #judge·still-looked-at}
+use Rattle.judge.proofs.still_looked_at.Met as still-looked-at-thm
 use Rattle.judge.proofs.look as look′
 use Rattle.judge.proofs.look.Symbol as look-def
 use Rattle.judge.proofs.look.Symbol.{name as #judge·look}
@@ -78,6 +83,8 @@ module _ {M : Type 1} (𝓤 : URA M) (H : Heap 𝓤) (A : Atoms 𝓤) (W : Given
     (𝓣 : Tables 𝓤 H)
     (known-accepted : Met 𝓤 H A 𝓣 accepted-shape (accepted.clauses 𝓤 H A mem run) #judge·accepted)
     (known-byte-at : Met 𝓤 H A 𝓣 byte-at-shape (byte-at.clauses 𝓤 H A mem run) #bits·byte-at)
+    (known-still-looked-at : Met 𝓤 H A 𝓣 still-looked-at-shape (still-looked-at.clauses 𝓤 H A mem run)
+    #judge·still-looked-at)
     (known-look : Met 𝓤 H A 𝓣 look-shape (look′.clauses 𝓤 H A mem run) #judge·look)
     (known-step : Met 𝓤 H A 𝓣 step-shape (step.clauses 𝓤 H A mem run) #bus·step)
     (known-new : Triple 𝓤 (𝓣 .C #recording·new) (New 𝓤 H A mem run))
@@ -97,7 +104,8 @@ module _ {M : Type 1} (𝓤 : URA M) (H : Heap 𝓤) (A : Atoms 𝓤) (W : Given
   abbrev n : ℕ
   n = length tr
 
-  -- the state on entry and after k turns, event k, what is seen in it, its result, and what the reader says of it
+  -- the state on entry and after k turns, event k, how many devices are looked at in it, what is seen of them, its
+  -- result, and what the reader says of it
   abbrev entry : JudgeState
   entry = judgeState Accepted (x₂ .now) (x₃ .now)
 
@@ -110,8 +118,11 @@ module _ {M : Type 1} (𝓤 : URA M) (H : Heap 𝓤) (A : Atoms 𝓤) (W : Given
   abbrev v : ℕ → ℕ
   v k = getD tr k 0
 
+  abbrev lk : ℕ → ℕ
+  lk k = stillLookedAt (vd k) m
+
   abbrev sn : ℕ → Seen
-  sn k = seenUpTo tr an (st k .work) (st k .lines) k m
+  sn k = seenUpTo tr an (st k .work) (st k .lines) k (lk k)
 
   abbrev res : ℕ → EventResult
   res k = eventResult (scanOn (st k .lines) m (v k)) (copiedOn m (v k) (busState (st k .work) (st k .lines)))
@@ -152,14 +163,16 @@ module _ {M : Type 1} (𝓤 : URA M) (H : Heap 𝓤) (A : Atoms 𝓤) (W : Given
       (λ w ws. w ≡ Accepted) (λ w ws. id⊢ 𝓤 _) Accepted tt (λ w ws e. (e, refl))
       (no-more !) [] refl (λ is₀ _. lands-new ! refl (verdict .typed 𝓤 H A W Accepted is₀) $
       makes (κs .0) (κs .1 .0) (qs .0) (qs .1 .0) x x₁ W mem run ! 𝓣 known-new (also ! refl (also ! refl (no-more !)))
-      (27 ∷ 28 ∷ 31 ∷ 32 ∷ []) refl (lands-new ! refl (typed x x₁ 0 (room .0) (room₁ .0) (lit< tt)) $
-      move ! (30 ∷ 28 ∷ 29 ∷ 27 ∷ 31 ∷ 32 ∷ 33 ∷ 34 ∷ []) $ lowers ! 8 27 $
+      (28 ∷ 29 ∷ 32 ∷ 33 ∷ []) refl (lands-new ! refl (typed x x₁ 0 (room .0) (room₁ .0) (lit< tt)) $
+      move ! (31 ∷ 29 ∷ 30 ∷ 28 ∷ 32 ∷ 33 ∷ 34 ∷ 35 ∷ []) $ lowers ! 8 28 $
       counted-where ! 𝓣 n (λ k. Is (verdict .type) (vd k) (verdict .mach (vd k) ∷ [])) (At bs)
-      -- a turn: the event is read, every device is looked at, the event is given to the devices, and the verdict follows
+      -- a turn: the event is read, the devices are looked at while no rule is broken, the event is given to them, and
+      -- the verdict follows
       (λ k Q small vd-is on-to.
       let len : length (st k .work) ≡ length (x₂ .now) = judge-work-length tr an m k entry in
       let len₃ : length (st k .lines) ≡ length (x₃ .now) = judge-lines-length tr an m k entry in
       let few : m ≤ length (st k .lines) = subst (λ (j : ℕ). m ≤ j) (sym len₃) pre in
+      let looked-few : lk k ≤ length (st k .lines) = omega (arith, still-few (vd k) m, few) in
       let k-fits : k < 2 ^ 64 = omega (arith, small, room .0) in
       let next-fits : suc k < 2 ^ 64 = omega (arith, small, room .0) in
       new ! (of-opd ! (place-in ! x x₁ k refl refl)) refl (tt, record { fits = k-fits }) $
@@ -169,35 +182,40 @@ module _ {M : Type 1} (𝓤 : URA M) (H : Heap 𝓤) (A : Atoms 𝓤) (W : Given
       asks ! 𝓣 byte-at-shape (byte-at.clauses 𝓤 H A mem run) known-byte-at (κs .0, tt) (qs .0, tt) tt (x, (k, tt))
       (val x ∷ [], (vint w64 k ∷ [], tt)) tt ((refl, k-fits), tt) (id⊢ 𝓤 _)
       (λ r ws. r ≡ v k) (λ r ws. id⊢ 𝓤 _) (v k) (tt, (tt, tt)) (λ r ws e. (e, refl))
-      (also ! refl (also ! refl (no-more !))) (31 ∷ 33 ∷ []) refl (λ v-is _.
+      (also ! refl (also ! refl (no-more !))) (32 ∷ 34 ∷ []) refl (λ v-is _.
       lands-new ! refl (tt, record { fits = v-is .1 }) $
+      asks ! 𝓣 still-looked-at-shape (still-looked-at.clauses 𝓤 H A mem run) known-still-looked-at tt tt tt
+      (vd k, (m, tt)) (verdict .mach (vd k) ∷ [], (vint w64 m ∷ [], tt)) tt (vd-is, (m-is, tt)) (id⊢ 𝓤 _)
+      (λ r us. r ≡ lk k) (λ r us. id⊢ 𝓤 _) (lk k) (tt, (tt, tt)) (λ r us e. (e, refl))
+      (also ! refl (also ! refl (no-more !))) [] refl (λ lk-is _.
+      lands-new ! refl (tt, record { fits = lk-is .1 }) $
       -- `look`: the work space and the lines are lent to it as `&`
       again ! refl refl refl refl tt (refl, refl, refl) tt (room₂ .0) $
       again ! refl refl refl refl tt (refl, refl, refl) tt (room₃ .0) $
-      move ! (29 ∷ 30 ∷ []) $ shares-on ! tt u8 (κs .1 .1 .0) (qs .1 .1 .0) (to x₂ (st k .work)) (length (x₂ .now)) len
-      (λ ν δ. lowers ! 3 27 $
-      move ! (30 ∷ 31 ∷ []) $ shares-on ! tt R (κs .1 .1 .1 .0) (qs .1 .1 .1 .0) (to x₃ (st k .lines)) (length (x₃ .now))
-      len₃ (λ ν′ δ′. lowers ! 3 27 $
+      move ! (30 ∷ 31 ∷ []) $ shares-on ! tt u8 (κs .1 .1 .0) (qs .1 .1 .0) (to x₂ (st k .work)) (length (x₂ .now)) len
+      (λ ν δ. lowers ! 3 28 $
+      move ! (31 ∷ 32 ∷ []) $ shares-on ! tt R (κs .1 .1 .1 .0) (qs .1 .1 .1 .0) (to x₃ (st k .lines)) (length (x₃ .now))
+      len₃ (λ ν′ δ′. lowers ! 3 28 $
       asks ! 𝓣 look-shape (look′.clauses 𝓤 H A mem run) known-look (κs .0, (κs .1 .0, (ν ∷ [], (ν′ ∷ [], tt))))
       (qs .0, (qs .1 .0, (fullShare, (fullShare, tt)))) tt
-      (x, (x₁, (under x₂ δ (st k .work), (under x₃ δ′ (st k .lines), (m, (k, tt))))))
-      (val x ∷ [], (val x₁ ∷ [], (val x₂ ∷ [], (val x₃ ∷ [], (vint w64 m ∷ [], (vint w64 k ∷ [], tt)))))) tt
-      (m-is, ((refl, k-fits), tt)) (factI 𝓤 _ (emp 𝓤) few)
+      (x, (x₁, (under x₂ δ (st k .work), (under x₃ δ′ (st k .lines), (lk k, (k, tt))))))
+      (val x ∷ [], (val x₁ ∷ [], (val x₂ ∷ [], (val x₃ ∷ [], (vint w64 (lk k) ∷ [], (vint w64 k ∷ [], tt)))))) tt
+      (lk-is, ((refl, k-fits), tt)) (factI 𝓤 _ (emp 𝓤) looked-few)
       (λ r ws. r ≡ sn k) (λ r ws. id⊢ 𝓤 _) (sn k) (tt, (tt, (tt, (tt, (tt, (tt, tt)))))) (λ r ws e. (e, refl))
       (also ! refl (also ! refl (also ! refl (also ! refl (also ! refl (also ! refl (no-more !)))))))
-      (35 ∷ 33 ∷ 30 ∷ 27 ∷ 36 ∷ 34 ∷ 31 ∷ 28 ∷ []) refl (λ sn-is _.
+      (36 ∷ 34 ∷ 31 ∷ 28 ∷ 37 ∷ 35 ∷ 32 ∷ 29 ∷ []) refl (λ sn-is _.
       lands-new ! refl (seen .typed 𝓤 H A W (sn k) sn-is) $
-      move ! (31 ∷ 28 ∷ []) $ shares-back ! tt u8 (κs .1 .1 .0) (qs .1 .1 .0) (to x₂ (st k .work)) (length (x₂ .now)) len
-      room₂ ν $ lowers ! 2 27 $ move ! (35 ∷ []) $ drop ! $
-      move ! (32 ∷ 29 ∷ []) $ shares-back ! tt R (κs .1 .1 .1 .0) (qs .1 .1 .1 .0) (to x₃ (st k .lines))
-      (length (x₃ .now)) len₃ room₃ ν′ $ lowers ! 2 27 $ move ! (35 ∷ []) $ drop ! $
+      move ! (32 ∷ 29 ∷ []) $ shares-back ! tt u8 (κs .1 .1 .0) (qs .1 .1 .0) (to x₂ (st k .work)) (length (x₂ .now)) len
+      room₂ ν $ lowers ! 2 28 $ move ! (36 ∷ []) $ drop ! $
+      move ! (33 ∷ 30 ∷ []) $ shares-back ! tt R (κs .1 .1 .1 .0) (qs .1 .1 .1 .0) (to x₃ (st k .lines))
+      (length (x₃ .now)) len₃ room₃ ν′ $ lowers ! 2 28 $ move ! (36 ∷ []) $ drop ! $
       -- `step`: they are lent to it
       again ! refl refl refl refl tt (refl, refl, refl) tt (room₂ .0) $
       again ! refl refl refl refl tt (refl, refl, refl) tt (room₃ .0) $
-      move ! (29 ∷ 30 ∷ []) $ lends ! tt u8 (κs .1 .1 .0) (qs .1 .1 .0) (to x₂ (st k .work)) (length (x₂ .now)) len
-      (λ α β. lowers ! 3 27 $
-      move ! (30 ∷ 31 ∷ []) $ lends ! tt R (κs .1 .1 .1 .0) (qs .1 .1 .1 .0) (to x₃ (st k .lines)) (length (x₃ .now))
-      len₃ (λ α′ β′. lowers ! 3 27 $
+      move ! (30 ∷ 31 ∷ []) $ lends ! tt u8 (κs .1 .1 .0) (qs .1 .1 .0) (to x₂ (st k .work)) (length (x₂ .now)) len
+      (λ α β. lowers ! 3 28 $
+      move ! (31 ∷ 32 ∷ []) $ lends ! tt R (κs .1 .1 .1 .0) (qs .1 .1 .1 .0) (to x₃ (st k .lines)) (length (x₃ .now))
+      len₃ (λ α′ β′. lowers ! 3 28 $
       asks ! 𝓣 step-shape (step.clauses 𝓤 H A mem run) known-step (α ∷ [], (α′ ∷ [], tt)) (fullShare, (fullShare, tt)) tt
       (under x₂ β (st k .work), (under x₃ β′ (st k .lines), (m, (v k, tt))))
       (val x₂ ∷ [], (val x₃ ∷ [], (vint w64 m ∷ [], (vint w8 (v k) ∷ [], tt)))) tt (m-is, (v-is, tt)) (id⊢ 𝓤 _)
@@ -209,33 +227,34 @@ module _ {M : Type 1} (𝓤 : URA M) (H : Heap 𝓤) (A : Atoms 𝓤) (W : Given
         e .0,
         both ((λ i. busState (e .1 i) (e .2 i)) ∙ step-on m (v k) (busState (st k .work) (st k .lines)) few),
       ))
-      (also ! refl (also ! refl (also ! refl (also ! refl (no-more !))))) (30 ∷ 27 ∷ 31 ∷ 28 ∷ []) refl
+      (also ! refl (also ! refl (also ! refl (also ! refl (no-more !))))) (31 ∷ 28 ∷ 32 ∷ 29 ∷ []) refl
       (λ is _. lands-new ! refl (result .typed 𝓤 H A W (res k) is) $
-      move ! (33 ∷ 28 ∷ 35 ∷ []) $ backs ! tt u8 (κs .1 .1 .0) (qs .1 .1 .0) (to x₂ (st k .work)) (length (x₂ .now)) len
-      room₂ α β (st (suc k) .work) $ lowers ! 2 27 $
-      move ! (34 ∷ 29 ∷ 35 ∷ []) $ backs ! tt R (κs .1 .1 .1 .0) (qs .1 .1 .1 .0) (to x₃ (st k .lines))
-      (length (x₃ .now)) len₃ room₃ α′ β′ (st (suc k) .lines) $ lowers ! 2 27 $
+      move ! (34 ∷ 29 ∷ 36 ∷ []) $ backs ! tt u8 (κs .1 .1 .0) (qs .1 .1 .0) (to x₂ (st k .work)) (length (x₂ .now)) len
+      room₂ α β (st (suc k) .work) $ lowers ! 2 28 $
+      move ! (35 ∷ 30 ∷ 36 ∷ []) $ backs ! tt R (κs .1 .1 .1 .0) (qs .1 .1 .1 .0) (to x₃ (st k .lines))
+      (length (x₃ .now)) len₃ room₃ α′ β′ (st (suc k) .lines) $ lowers ! 2 28 $
       -- the reader is asked, and the verdict follows
       new ! (of-opd ! (var ! refl)) refl (typed x x₁ k (room .0) (room₁ .0) k-fits) $
       agrees-in (κs .0) (κs .1 .0) (qs .0) (qs .1 .0) x x₁ W mem run ! 𝓣 known-agrees k (res k .level) k-fits
-      (also ! refl (and-then ! (load ! (from ! (fld ! refl (stop !))) (look-in ! 11 (sub ! 0 refl (whole !)))) (no-more !)))
-      (31 ∷ 32 ∷ 33 ∷ 34 ∷ []) refl (lands-new ! refl (tt, tt) $
+      (also ! refl (and-then ! (load ! (from ! (fld ! refl (stop !))) (look-in ! 12 (sub ! 0 refl (whole !)))) (no-more !)))
+      (32 ∷ 33 ∷ 34 ∷ 35 ∷ []) refl (lands-new ! refl (tt, tt) $
       asks ! 𝓣 verdict-next-shape (verdict-next.clauses 𝓤 H A mem run) known-verdict-next tt tt tt
       (vd k, (ag k, (sn k, (k, tt))))
       (verdict .mach (vd k) ∷ [], (vbool (ag k) ∷ [], (seen .mach (sn k) ∷ [], (vint w64 k ∷ [], tt)))) tt
       (vd-is, (refl, (sn-is, ((refl, k-fits), tt)))) (id⊢ 𝓤 _)
-      (λ r us. r ≡ vd (suc k)) (λ r us. id⊢ 𝓤 _) (vd (suc k)) (tt, (tt, (tt, (tt, tt)))) (λ r us e. (e, refl))
+      (λ r us. r ≡ verdictNext (vd k) (ag k) (sn k) k) (λ r us. id⊢ 𝓤 _) (vd (suc k)) (tt, (tt, (tt, (tt, tt))))
+      (λ r us e. (e ∙ still-enough tr an (st k .work) (st k .lines) k m (vd k) (ag k), refl))
       (also ! refl (also ! refl (also ! refl (also ! refl (no-more !))))) [] refl (λ got _.
       lands-renew ! refl (verdict .typed 𝓤 H A W (vd (suc k)) got) $
       -- the reader moves on
       new ! (of-opd ! (var ! refl)) refl (typed x x₁ k (room .0) (room₁ .0) k-fits) $
       moves-last (κs .0) (κs .1 .0) (qs .0) (qs .1 .0) x x₁ W mem run ! 𝓣 known-next k small k-fits
-      (also ! refl (no-more !)) (31 ∷ 32 ∷ 33 ∷ 34 ∷ []) refl (
+      (also ! refl (no-more !)) (32 ∷ 33 ∷ 34 ∷ 35 ∷ []) refl (
       ends-renew ! refl (typed x x₁ (suc k) (room .0) (room₁ .0) next-fits) $
       forget ! 8 refl $ forget ! 9 refl $ forget ! 10 refl $ forget ! 11 refl $ forget ! 12 refl $ forget ! 13 refl $
       forget ! 14 refl $ forget ! 15 refl $ forget ! 16 refl $ forget ! 17 refl $ forget ! 18 refl $
       forget ! 19 refl $ forget ! 20 refl $ forget ! 21 refl $ forget ! 22 refl $ forget ! 23 refl $
-      forget ! 24 refl $ forget ! 25 refl $ on-to got)))))))))))
+      forget ! 24 refl $ forget ! 25 refl $ forget ! 26 refl $ on-to got))))))))))))
       -- the loop is left, and the function returns
       (λ Q vd-is out.
       new ! (of-opd ! (place-in ! x x₁ n refl refl)) refl (tt, record { fits = room .0 }) $
@@ -243,8 +262,8 @@ module _ {M : Type 1} (𝓤 : URA M) (H : Heap 𝓤) (A : Atoms 𝓤) (W : Given
       goes-out ! (var ! refl) (var ! refl) (lt-irrefl n) refl tt refl $ out _ (
       new ! (of-opd ! (var ! refl)) refl (verdict .typed 𝓤 H A W (vd n) vd-is) $
       returns ! (look ! 0 refl) $ quits
-      ! (has (verdict .mach (vd n)) ∷ vs n ++ void ∷ void ∷ void ∷ void ∷ void ∷ has (vint w64 n) ∷ has (vint w64 n)
-      ∷ has (vbool false) ∷ []) $
+      ! (has (verdict .mach (vd n)) ∷ vs n ++ void ∷ void ∷ void ∷ void ∷ void ∷ void ∷ has (vint w64 n)
+      ∷ has (vint w64 n) ∷ has (vbool false) ∷ []) $
       move ! (4 ∷ 5 ∷ 3 ∷ 1 ∷ 6 ∷ 7 ∷ 2 ∷ 0 ∷ []) $
       finishes 𝓤 H shape A (judge-events.clauses 𝓤 H A mem run) κs qs tt a tt W ! (vd n)
       (tt, (tt, (st n .work, (st n .lines, (tt, tt))))) vd-is (m-is, tt)
@@ -259,6 +278,8 @@ judge-events-spec 𝓤 H 𝓜 𝓖 𝓡 =
     (λ κs qs bounds a g. walk 𝓤 H (𝓖 .A) (givenOf 𝓤 H 𝓜 𝓖) (𝓜 .mem) (𝓡 .run) (tablesOf 𝓤 H 𝓜 (tables 𝓤 H 𝓜 𝓡 code.env))
     (cited 𝓤 H _ 𝓜 𝓡 code.env #judge·accepted accepted-def.routine code.calls-judge·accepted (accepted-thm.met 𝓤 H 𝓜 𝓖 𝓡))
     (cited 𝓤 H _ 𝓜 𝓡 code.env #bits·byte-at byte-at-def.routine code.calls-bits·byte-at (byte-at-thm.met 𝓤 H 𝓜 𝓖 𝓡))
+    (cited 𝓤 H _ 𝓜 𝓡 code.env #judge·still-looked-at still-looked-at-def.routine code.calls-judge·still-looked-at
+    (still-looked-at-thm.met 𝓤 H 𝓜 𝓖 𝓡))
     (cited 𝓤 H _ 𝓜 𝓡 code.env #judge·look look-def.routine code.calls-judge·look (look-thm.met 𝓤 H 𝓜 𝓖 𝓡))
     (cited 𝓤 H _ 𝓜 𝓡 code.env #bus·step step-def.routine code.calls-bus·step (step-thm.met 𝓤 H 𝓜 𝓖 𝓡))
     (cited 𝓤 H _ 𝓜 𝓡 code.env #recording·new new-def.routine code.calls-recording·new (new-thm.met 𝓤 H 𝓜 𝓖 𝓡))
