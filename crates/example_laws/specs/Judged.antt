@@ -142,7 +142,8 @@ copyRows =
     (Broken Copy 146)
     -- The first copy set AA, which no read showed before the second.
     ∷ recorded blankDs1992 (twoWritten ++ readBack 0x07 ++ copied 0x07 ++ copied 0x87) (Broken Copy 187)
-    -- A second write ends within a byte, so that the reset after it sets PF, which the read before it did not show.
+    -- A second write ends within a byte, so that the reset after it sets PF. A read before PF changed can only stand
+    -- before that write, and does not count for this reason too.
     ∷ recorded blankDs1992
     (twoWritten ++ readBack 0x07 ++ skip (0x0F ∷ 0x26 ∷ 0x00 ∷ 0xA1 ∷ []) ++ writeBits 3 0xA2 ∷ copied 0x27)
     (Broken Copy 190)
