@@ -19,10 +19,11 @@ use Rattle.device.proofs.Laws.{going-on-copies}
 use Rattle.bus.specs.declared.Event.{Event}
 use Rattle.bus.specs.declared.Event.the-variants.{Slot, Reset, Pulse, OverdriveSlot, OverdriveReset}
 use Rattle.bus.specs.declared.Place.{Place}
+use Rattle.bus.specs.declared.SlotTurn.{SlotTurn}
 use Rattle.bus.specs.Bus.{Device, eventOf, takenState, hears, heardState, heardBody, unheardState, heardCopied, nextState, nextBody, copiedIn, isSlot, isOverdrive}
 use Rattle.bus.specs.Loops.{heardStateAsIs, heardBodyAsIs, heardCopiedAsIs, slotByte, kindIn, bodyIn}
 use Rattle.bus.specs.Loops.{nextStateAsIs, nextBodyAsIs, passedOver, placeIn, deviceAtPlace, deviceIn, imageWithBody, turnState, turnImage}
-use Rattle.bus.specs.Loops.{copiedAsIs, turnCopied, mostCopied, addedTo, copiedUpTo}
+use Rattle.bus.specs.Loops.{slotTurn, copiedAsIs, turnCopied, mostCopied, addedTo, copiedUpTo}
 use Rattle.bus.specs.Loops.{lineAt, BusState, busState, turnAt, turnsUpTo, turnStatesFrom, turnStatesOf}
 use Rattle.bus.proofs.Laws.{Inside, place-inside}
 use Rattle.bus.proofs.Ranges.{InRange}
@@ -126,6 +127,14 @@ module _ (byte : ℕ) (h : 2 ≤ byte) (image : List ℕ) (i : ℕ) (state : Lin
   pub heard-copied : turnCopied image i state byte level ≡ heardCopiedAsIs (eventOf byte) level (deviceIn image i state)
   unfolding turnCopied copiedAsIs deviceIn deviceAtPlace
   heard-copied = rw (none-passed byte state h, heard)
+
+  -- what is left by its event is its turn
+  pub heard-turn : (event : Event) → eventOf byte ≡ event → (turn : SlotTurn) (left : List ℕ)
+      → (turn ≡ slotTurn (heardStateAsIs event level (deviceIn image i state)) (heardCopiedAsIs event level (deviceIn image i state)))
+      × (left ≡ imageWithBody image (placeIn image i) (heardBodyAsIs event level (deviceIn image i state)))
+      → (turn ≡ slotTurn (turnState image i state byte level) (turnCopied image i state byte level))
+      × (left ≡ turnImage image i state byte level)
+  heard-turn event e turn left so = (rw (heard-state, heard-copied, e) (so .0), rw (heard-image, e) (so .1))
 
 -- ---- a slot at either speed
 

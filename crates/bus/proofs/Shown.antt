@@ -85,10 +85,10 @@ bodies-append [] ys = refl
 bodies-append (x ∷ xs) ys = ap (λ (l : List ℕ). x .body ++ l) (bodies-append xs ys) ∙ sym (append-assoc (x .body) (bodiesOf xs) (bodiesOf ys))
 
 -- a place by its kind, start and size
-abbrev placed : Kind → ℕ → ℕ → Place
+abbrev pub placed : Kind → ℕ → ℕ → Place
 placed kind start size = record { kind = kind; start = start; end = start + size }
 
-place-known : (image : List ℕ) (i : ℕ) → i < countOf image → offsetAt image i + bodySize (kindAt image i) ≤ length image
+pub place-known : (image : List ℕ) (i : ℕ) → i < countOf image → offsetAt image i + bodySize (kindAt image i) ≤ length image
     → placeIn image i ≡ placed (kindAt image i) (offsetAt image i) (bodySize (kindAt image i))
 unfolding placeIn
 place-known image i h fits = rw (lt-ltb i (countOf image) h, le-leb (offsetAt image i + bodySize (kindAt image i)) (length image) fits)

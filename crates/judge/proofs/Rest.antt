@@ -8,7 +8,6 @@ use native.Mathlib.Omega.{arith}
 use lib.ListN.{length, getD, set, take, drop, length-append, length-drop, take-append-drop, List·getD-append}
 use lib.Seq.{length-take-le, drop-cons}
 use lib.Dec.{eqb}
-use borrow.Author.Tests.{lt-ltb, le-leb}
 use Rattle.kind.specs.declared.Kind.{Kind}
 use Rattle.kind.specs.Kind.{kindOf, bodySize}
 use Rattle.image.specs.Image.{countOf, offsetAt, kindAt}
@@ -20,7 +19,7 @@ use Rattle.bus.specs.Run.{tableOfContents, bodiesOf, statesOf}
 use Rattle.bus.specs.Loops.{passedOver, nextStateAsIs, nextBodyAsIs, placeIn, deviceAtPlace, deviceIn, imageWithBody, turnState, turnImage, lineAt, BusState, busState, turnAt, turnsUpTo}
 use Rattle.bus.proofs.Ranges.{AllIn}
 use Rattle.bus.proofs.Runs.{AllSame, part-same, same-length}
-use Rattle.bus.proofs.Shown.{Stand, stand-same, nobody, imageOf, contents-length, kind-kept, count-kept, entered, image-split, start-is, place-is, turns-are}
+use Rattle.bus.proofs.Shown.{Stand, stand-same, nobody, imageOf, contents-length, kind-kept, count-kept, entered, image-split, placed, place-known, start-is, place-is, turns-are}
 
 drop-front : (s : ℕ) (xs ys : List ℕ) → s ≤ length xs → drop s (xs ++ ys) ≡ drop s xs ++ ys
 drop-front zero xs ys h = refl
@@ -31,14 +30,6 @@ take-front : (n : ℕ) (xs ys : List ℕ) → n ≤ length xs → take n (xs ++ 
 take-front zero xs ys h = refl
 take-front (suc n) [] ys h = absurd (omega arith)
 take-front (suc n) (x ∷ xs) ys h = ap (λ (l : List ℕ). x ∷ l) (take-front n xs ys (omega arith))
-
-abbrev placed : Kind → ℕ → ℕ → Place
-placed kind start size = record { kind = kind; start = start; end = start + size }
-
-place-known : (image : List ℕ) (i : ℕ) → i < countOf image → offsetAt image i + bodySize (kindAt image i) ≤ length image
-    → placeIn image i ≡ placed (kindAt image i) (offsetAt image i) (bodySize (kindAt image i))
-unfolding placeIn
-place-known image i h fits = rw (lt-ltb i (countOf image) h, le-leb (offsetAt image i + bodySize (kindAt image i)) (length image) fits)
 
 pub take-drop : (es : List Device) (j : ℕ) → j < length es → es ≡ take j es ++ getD es j nobody ∷ drop (suc j) es
 take-drop es j few = sym (take-append-drop j es) ∙ ap (λ (l : List Device). take j es ++ l) (drop-cons es j nobody few)

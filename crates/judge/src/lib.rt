@@ -822,7 +822,7 @@ pub fn event_of(verdict: Verdict) -> u64
 
 // A recording is refused with the number of the first cause that applies, in the order 1 to 5, 11, 6, 7; the number is
 // 0 where none does. All are the run's but two of cause 7, the lengths of the answers and of the work space.
-pub fn refusal(image: &[u8], trace: &[u8], answers: usize, work: usize, lines: usize) -> u32
+fn refusal(image: &[u8], trace: &[u8], answers: usize, work: usize, lines: usize) -> u32
     ensures { λ r. ⌜ r ≡ judgeRefusal (now (image .entry)) (now (trace .entry)) answers work lines ⌝ }
 {
     let number = bus::refusal(image, trace, trace.len(), lines);

@@ -7,8 +7,8 @@ ghost use lib.ListN.{length};
 ghost use Rattle.recording.specs.Recorded.{agreesAt, nextAt};
 
 pub struct Recording<'a, 'b> {
-    pub trace: &'a [u8],
-    pub answers: &'b [u8],
+    trace: &'a [u8],
+    answers: &'b [u8],
     // Events are counted from 0.
     pub at: usize,
 }

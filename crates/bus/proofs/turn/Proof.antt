@@ -1,9 +1,10 @@
 use mathlib.Core.Path.{refl, ap}
 use mathlib.Core.Bool.{true}
 use borrow.Author.Needs.{needs}
+use Rattle.bus.specs.declared.Event.the-variants.{Reset, Pulse, OverdriveReset}
 use Rattle.bus.specs.Bus.{eventOf}
 use Rattle.bus.specs.Loops.{heardStateAsIs, heardBodyAsIs, heardCopiedAsIs, deviceAtPlace, deviceIn, kindIn, bodyIn}
-use Rattle.bus.proofs.Idle.{other-over, other-pulse, heard-state, heard-image, heard-copied}
+use Rattle.bus.proofs.Idle.{other-over, other-pulse, heard-turn}
 use Rattle.bus.proofs.turn.Statement.{statement}
 use Rattle.bus.proofs.turn.Tie as tie
 
@@ -24,18 +25,9 @@ unfolding eventOf heardStateAsIs heardBodyAsIs heardCopiedAsIs deviceIn deviceAt
 returns c =
     let s = c .before .before .before .before .before .before in
     let a = s .args in
-    let n = c .before .before .heard-reset in
     let m = c .before .before .before .before .match in
-    let event = ap eventOf (m .keys1) in
-    let over = other-over (a .byte) (s .pre .0) in
-    let heard = s .pre .1 in (
-      rw (
-        heard-state (a .byte) over (a .image .now) (a .i) (a .state) heard true,
-        heard-copied (a .byte) over (a .image .now) (a .i) (a .state) heard true,
-        event,
-      ) (n .ensures .0),
-      rw (heard-image (a .byte) over (a .image .now) (a .i) (a .state) heard true, event) (n .ensures .1),
-    )
+    heard-turn (a .byte) (other-over (a .byte) (s .pre .0)) (a .image .now) (a .i) (a .state) (s .pre .1) true Reset
+    (ap eventOf (m .keys1)) _ _ (c .before .before .heard-reset .ensures)
 
 same-length-2 : tie.Need-same-length-2
 same-length-2 c = search needs
@@ -45,18 +37,9 @@ unfolding eventOf heardStateAsIs heardBodyAsIs heardCopiedAsIs deviceIn deviceAt
 returns-2 c =
     let s = c .before .before .before .before .before .before in
     let a = s .args in
-    let n = c .before .before .heard-reset2 in
     let m = c .before .before .before .before .match in
-    let event = ap eventOf (m .keys2) in
-    let over = other-over (a .byte) (s .pre .0) in
-    let heard = s .pre .1 in (
-      rw (
-        heard-state (a .byte) over (a .image .now) (a .i) (a .state) heard true,
-        heard-copied (a .byte) over (a .image .now) (a .i) (a .state) heard true,
-        event,
-      ) (n .ensures .0),
-      rw (heard-image (a .byte) over (a .image .now) (a .i) (a .state) heard true, event) (n .ensures .1),
-    )
+    heard-turn (a .byte) (other-over (a .byte) (s .pre .0)) (a .image .now) (a .i) (a .state) (s .pre .1) true OverdriveReset
+    (ap eventOf (m .keys2)) _ _ (c .before .before .heard-reset2 .ensures)
 
 same-length-3 : tie.Need-same-length-3
 same-length-3 c = search needs
@@ -66,18 +49,9 @@ unfolding heardStateAsIs heardBodyAsIs heardCopiedAsIs deviceIn deviceAtPlace ki
 returns-3 c =
     let s = c .before .before .before .before .before .before in
     let a = s .args in
-    let n = c .before .before .heard-pulse in
     let m = c .before .before .before .before .match in
-    let event = other-pulse (a .byte) (s .pre .0) (m .rest .0 .1) (m .rest .1) in
-    let over = other-over (a .byte) (s .pre .0) in
-    let heard = s .pre .1 in (
-      rw (
-        heard-state (a .byte) over (a .image .now) (a .i) (a .state) heard true,
-        heard-copied (a .byte) over (a .image .now) (a .i) (a .state) heard true,
-        event,
-      ) (n .ensures .0),
-      rw (heard-image (a .byte) over (a .image .now) (a .i) (a .state) heard true, event) (n .ensures .1),
-    )
+    heard-turn (a .byte) (other-over (a .byte) (s .pre .0)) (a .image .now) (a .i) (a .state) (s .pre .1) true Pulse
+    (other-pulse (a .byte) (s .pre .0) (m .rest .0 .1) (m .rest .1)) _ _ (c .before .before .heard-pulse .ensures)
 
 pub turn-spec : {M : Type 1} → statement M
 turn-spec =
