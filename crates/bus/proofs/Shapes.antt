@@ -125,6 +125,18 @@ level-shape = record {
   gives = scan;
 }
 
+-- the same of what else asks a line state for a truth, and of what gives one back after a level
+abbrev pub shifted-shape : Shape
+shifted-shape = record { lifetimes = 0; outlives = []; kinds = dataK line ∷ dataK truth ∷ []; gives = line }
+
+abbrev pub shift-all-shape : Shape
+shift-all-shape = record {
+  lifetimes = 1;
+  outlives = [];
+  kinds = mutK 0 tt R ∷ dataK (num w64) ∷ dataK (num w64) ∷ dataK truth ∷ dataK truth ∷ [];
+  gives = num w64;
+}
+
 abbrev pub slot-all-shape : Shape
 slot-all-shape = record {
   lifetimes = 2;
