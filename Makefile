@@ -3,7 +3,7 @@
 #   make install                under PREFIX, by default /usr/local, with DESTDIR before it; make uninstall
 #   make install-all            the shared library, the guide and the examples too
 #   make dist, make deb         a tarball of all that, and a Debian package, in target/dist
-# The library is made with 'rt staticlib troughiron', where it is missing or was made from other code. LIBRARY names one
+# The library is proved and made by command/library, where it is missing or was made from other code. LIBRARY names one
 # that was made elsewhere.
 
 .POSIX:

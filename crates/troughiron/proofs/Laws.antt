@@ -1,4 +1,5 @@
--- What the host sees of a run and of a search, from what is had of each. Assumes nothing.
+-- What the host sees of a run and of a search, from what is had of each; the laws of `countAfter` hold for a judgement
+-- too. Assumes nothing.
 use Prim.Native.Nat.{ℕ, zero, suc}
 use mathlib.Core.Path.{_≡_, refl, sym, ap, subst, _∙_}
 use mathlib.Core.List.{List}
@@ -6,16 +7,13 @@ use Rattle.bus.specs.declared.RunResult.{RunResult}
 use Rattle.bus.specs.Run.{RunOutcome}
 use Rattle.search.specs.declared.Found.{Found}
 use Rattle.search.specs.Found.{SearchOutcome}
-use Rattle.judge.specs.declared.Verdict.{Verdict}
-use Rattle.judge.specs.Judge.{refusalOf, ruleOf, brokenAt, JudgeOutcome}
-use Rattle.troughiron.specs.Host.{OwnJudgeLeaves, HostJudgeLeaves}
 use Rattle.troughiron.specs.Host.{OwnRunLeaves, HostRunLeaves, OwnSearchLeaves, countAfter, HostSearchLeaves}
 
-counted-now : (number count before : ℕ) → number ≡ 0 → countAfter number count before ≡ count
+pub counted-now : (number count before : ℕ) → number ≡ 0 → countAfter number count before ≡ count
 unfolding countAfter
 counted-now number count before e = ap (λ (n : ℕ). countAfter n count before) e
 
-counted-not : (number count before : ℕ) → (number ≡ 0 → ⊥) → countAfter number count before ≡ before
+pub counted-not : (number count before : ℕ) → (number ≡ 0 → ⊥) → countAfter number count before ≡ before
 unfolding countAfter
 counted-not zero count before h = absurd (h refl)
 counted-not (suc number) count before h = refl
@@ -72,29 +70,4 @@ module _ (left : SearchOutcome) (passes resets slots : ℕ) (found : Found) (cod
     passes-are = sym (counted-not (left .found .number) (left .found .passes) passes (λ z. h (sym same ∙ z)));
     resets-are = sym (counted-not (left .found .number) (left .found .resets) resets (λ z. h (sym same ∙ z)));
     slots-are = sym (counted-not (left .found .number) (left .found .slots) slots (λ z. h (sym same ∙ z)));
-  }
-
--- ---- a judgement
-
-module _ (left : JudgeOutcome) (rule event : ℕ) (verdict : Verdict) (work : List ℕ) (judges : OwnJudgeLeaves left verdict work)
-    (number : ℕ) (number-is : number ≡ refusalOf verdict) where
-  as-left : number ≡ refusalOf (left .verdict)
-  as-left = number-is ∙ ap refusalOf (judges .verdict-is)
-
-  -- not refused: the rule and the event are written
-  pub sees-verdict : (rule′ event′ : ℕ) → number ≡ 0 → rule′ ≡ ruleOf verdict → event′ ≡ brokenAt verdict → HostJudgeLeaves left rule event number work rule′ event′
-  sees-verdict rule′ event′ e r v = record {
-    number-is = as-left;
-    work-is = judges .work-is;
-    rule-is = r ∙ ap ruleOf (judges .verdict-is) ∙ sym (counted-now (refusalOf (left .verdict)) (ruleOf (left .verdict)) rule (sym as-left ∙ e));
-    event-is = v ∙ ap brokenAt (judges .verdict-is) ∙ sym (counted-now (refusalOf (left .verdict)) (brokenAt (left .verdict)) event (sym as-left ∙ e));
-  }
-
-  -- refused: they are not
-  pub sees-unjudged : (number ≡ 0 → ⊥) → HostJudgeLeaves left rule event number work rule event
-  sees-unjudged h = record {
-    number-is = as-left;
-    work-is = judges .work-is;
-    rule-is = sym (counted-not (refusalOf (left .verdict)) (ruleOf (left .verdict)) rule (λ z. h (as-left ∙ z)));
-    event-is = sym (counted-not (refusalOf (left .verdict)) (brokenAt (left .verdict)) event (λ z. h (as-left ∙ z)));
   }

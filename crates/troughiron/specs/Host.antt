@@ -1,6 +1,6 @@
 -- Document 01, 'What stands on the bench', and document 02, item 4, are stated here: the host is a C program, whose run
--- holds 64 line states of its own and reports the bytes copied where it is not refused. That its search and its judge
--- (document 02, item 5) hold 64 line states too is our own choice.
+-- holds 64 line states of its own and reports the bytes copied where it is not refused. That its search holds 64 line
+-- states too is our own choice.
 use Prim.Native.Nat.{ℕ, zero, suc}
 use mathlib.Core.Path.{_≡_}
 use mathlib.Core.List.{List}
@@ -8,8 +8,6 @@ use lib.ListN.{replicate}
 use Rattle.device.specs.Device.{waitingState}
 use Rattle.bus.specs.declared.RunResult.{RunResult}
 use Rattle.bus.specs.Run.{RunOutcome, runOf}
-use Rattle.judge.specs.declared.Verdict.{Verdict}
-use Rattle.judge.specs.Judge.{refusalOf, ruleOf, brokenAt, JudgeOutcome, judgeOf}
 use Rattle.search.specs.declared.Found.{Found}
 use Rattle.search.specs.Found.{SearchOutcome, searchOutcomeOf}
 
@@ -55,21 +53,3 @@ pub record HostSearchLeaves (left : SearchOutcome) (passes resets slots number :
 -- The host's search has 64 line states, and what these hold at the start has no effect.
 unfoldable pub hostSearch : List ℕ → List ℕ → List ℕ → SearchOutcome
 hostSearch image codes trace = searchOutcomeOf image codes trace (replicate 64 waitingState)
-
--- Of a judgement without its line states, the verdict and the work space are left.
-pub record OwnJudgeLeaves (left : JudgeOutcome) (verdict : Verdict) (work : List ℕ) : Type 0 where
-  pub verdict-is : verdict ≡ left .verdict
-  pub work-is : work ≡ left .work
-
--- The host sees of a judgement its number, the work space, the broken rule and its event; `rule` and `event` were the
--- numbers before.
-pub record HostJudgeLeaves (left : JudgeOutcome) (rule event number : ℕ) (work : List ℕ) (rule′ event′ : ℕ)
-    : Type 0 where
-  pub number-is : number ≡ refusalOf (left .verdict)
-  pub work-is : work ≡ left .work
-  pub rule-is : rule′ ≡ countAfter (refusalOf (left .verdict)) (ruleOf (left .verdict)) rule
-  pub event-is : event′ ≡ countAfter (refusalOf (left .verdict)) (brokenAt (left .verdict)) event
-
--- The host's judge has 64 line states, and what these hold at the start has no effect.
-unfoldable pub hostJudge : List ℕ → List ℕ → List ℕ → List ℕ → JudgeOutcome
-hostJudge image trace answers work = judgeOf image trace answers work (replicate 64 waitingState)

@@ -1,8 +1,7 @@
-// This crate is what a C program calls, on numbers and byte slices.
+// This crate is what a C program calls, on numbers and byte slices, but for the judge, whose call is in `judge_call`.
 use bus::RunResult;
 use device::LineState;
 use image::ACCEPTED;
-use judge::Verdict;
 use search::Found;
 ghost use mathlib.Core.Path.{_≡_};
 ghost use mathlib.Core.Bool.{cond};
@@ -11,7 +10,6 @@ ghost use Rattle.search_laws.specs.Search.{searchOf};
 ghost use Rattle.search_laws.specs.Searched.{Searched};
 ghost use Rattle.troughiron.specs.Host.{OwnRunLeaves, HostRunLeaves, hostRun};
 ghost use Rattle.troughiron.specs.Host.{OwnSearchLeaves, HostSearchLeaves, hostSearch};
-ghost use Rattle.troughiron.specs.Host.{OwnJudgeLeaves, HostJudgeLeaves, hostJudge};
 
 // The run has 64 line states of its own, as an image has at most 64 devices.
 fn run_own(image: &mut [u8], trace: &[u8], answers: &mut [u8]) -> RunResult
@@ -76,40 +74,6 @@ pub extern "C" fn troughiron_search(
         *slots = found.slots;
     }
     number
-}
-
-// The judge has 64 line states of its own, as an image has at most 64 devices.
-fn judge_own(image: &[u8], trace: &[u8], answers: &[u8], work: &mut [u8]) -> Verdict
-    ensures { λ r. ⌜ OwnJudgeLeaves
-        (hostJudge (now (image .entry)) (now (trace .entry)) (now (answers .entry)) (now (work .entry))) r
-        (now (work .exit)) ⌝ }
-{
-    let waiting = LineState::waiting();
-    let mut lines = [waiting; 64];
-    judge::judge(image, trace, answers, work, &mut lines)
-}
-
-// The judge writes the broken rule and its event only where the recording is not refused.
-#[no_mangle]
-pub extern "C" fn troughiron_judge(
-    image: &[u8],
-    trace: &[u8],
-    answers: &[u8],
-    work: &mut [u8],
-    rule: &mut u64,
-    event: &mut u64,
-) -> u32
-    ensures { λ r. ⌜ HostJudgeLeaves
-        (hostJudge (now (image .entry)) (now (trace .entry)) (now (answers .entry)) (now (work .entry)))
-        (now (rule .entry)) (now (event .entry)) r (now (work .exit)) (now (rule .exit)) (now (event .exit)) ⌝ }
-{
-    let verdict = judge_own(image, trace, answers, work);
-    let refused = judge::refusal_of(verdict);
-    if refused == ACCEPTED {
-        *rule = judge::rule_of(verdict);
-        *event = judge::event_of(verdict);
-    }
-    refused
 }
 
 // The registration check returns 1 for yes and 0 for no.

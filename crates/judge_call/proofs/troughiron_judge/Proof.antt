@@ -1,7 +1,7 @@
-use Rattle.troughiron.proofs.Laws.{sees-verdict, sees-unjudged}
+use Rattle.judge_call.proofs.Laws.{sees-verdict, sees-unjudged}
 use borrow.Author.Needs.{needs}
-use Rattle.troughiron.proofs.troughiron_judge.Statement.{statement}
-use Rattle.troughiron.proofs.troughiron_judge.Tie as tie
+use Rattle.judge_call.proofs.troughiron_judge.Statement.{statement}
+use Rattle.judge_call.proofs.troughiron_judge.Tie as tie
 
 judge-own-requires : tie.Need-judge-own-requires
 judge-own-requires c κs = search needs

@@ -1,4 +1,4 @@
--- `troughiron::judge_own` meets its contract: a walk of its MIR. Its own array of 64 line states is made waiting and lent
+-- `judge_call::judge_own` meets its contract: a walk of its MIR. Its own array of 64 line states is made waiting and lent
 -- to `judge::judge`, with the work space, each for a lifetime of the call; the other slices are passed as copies.
 -- All that it knows of its callees is that each meets its contract.
 -- Assumes nothing. `Walk.antt` of `walks` says how a walk is written.
@@ -16,7 +16,7 @@ use Rattle.bus.proofs.Lines.{R, mach, typed, lawfulR, copyR, line}
 use Rattle.bus.proofs.Shapes.{waiting-shape}
 use Rattle.judge.proofs.Lines.{verdict}
 use Rattle.judge.proofs.Shapes.{judge-shape}
-use Rattle.troughiron.specs.Host.{OwnJudgeLeaves, hostJudge}
+use Rattle.judge_call.specs.Host.{OwnJudgeLeaves, hostJudge}
 use Rattle.device.proofs.LineState.waiting as waiting
 use Rattle.device.proofs.LineState.waiting.Symbol as waiting-def
 use Rattle.device.proofs.LineState.waiting.Symbol.{name as #device·waiting}
@@ -25,10 +25,10 @@ use Rattle.judge.proofs.judge as judge′
 use Rattle.judge.proofs.judge.Symbol as judge-def
 use Rattle.judge.proofs.judge.Symbol.{name as #judge·judge}
 use Rattle.judge.proofs.judge.Met as judge-thm
-use Rattle.troughiron.proofs.judge_own.Key.{name as #troughiron·judge-own}
-use Rattle.troughiron.proofs.judge_own as judge-own
-use Rattle.troughiron.proofs.judge_own.Statement as stated
-use Rattle.troughiron.proofs.judge_own.Code as code
+use Rattle.judge_call.proofs.judge_own.Key.{name as #judge_call·judge-own}
+use Rattle.judge_call.proofs.judge_own as judge-own
+use Rattle.judge_call.proofs.judge_own.Statement as stated
+use Rattle.judge_call.proofs.judge_own.Code as code
 
 abbrev shape : Shape
 shape = record {
@@ -102,7 +102,7 @@ pub judge-own-spec : {M : Type 1} → stated.statement M
 unfolding code.routine tablesOf
 judge-own-spec 𝓤 H 𝓜 𝓖 𝓡 =
     proved 𝓤 H shape (𝓖 .A) (givenOf 𝓤 H 𝓜 𝓖) (judge-own.clauses 𝓤 H (𝓖 .A) (𝓜 .mem) (𝓡 .run)) (λ κs a. Unit {0})
-    𝓜 𝓡 code.env #troughiron·judge-own code.function (code.unfolded 𝓤 H 𝓜 𝓡) (λ κs a g. factI 𝓤 (Unit {0}) (emp 𝓤) tt)
+    𝓜 𝓡 code.env #judge_call·judge-own code.function (code.unfolded 𝓤 H 𝓜 𝓡) (λ κs a g. factI 𝓤 (Unit {0}) (emp 𝓤) tt)
     (λ κs qs bounds a g. walk 𝓤 H (𝓖 .A) (givenOf 𝓤 H 𝓜 𝓖) (𝓜 .mem) (𝓡 .run) (tablesOf 𝓤 H 𝓜 (tables 𝓤 H 𝓜 𝓡 code.env))
     (cited 𝓤 H _ 𝓜 𝓡 code.env #device·waiting waiting-def.routine code.calls-device·LineState·waiting
     (waiting-thm.met 𝓤 H 𝓜 𝓖 𝓡))
