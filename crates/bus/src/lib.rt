@@ -190,14 +190,16 @@ fn looks_on(high: bool, looked: usize, asked: usize) -> bool
 fn scan_of(byte: u8, high: bool, looked: usize) -> Scan
     ensures { λ r. ⌜ r ≡ scanWhere (eventOf byte) high looked ⌝ }
 {
-    let level = !holds_low(byte) & high;
     if is_slot(byte) {
         return Scan {
-            level,
+            level: !holds_low(byte) & high,
             looked: asked(byte, looked),
         };
     }
-    Scan { level, looked: 0 }
+    Scan {
+        level: high,
+        looked: 0,
+    }
 }
 
 // This is what a reset leaves of device i, which hears it.

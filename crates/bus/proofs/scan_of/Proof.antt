@@ -7,11 +7,11 @@ use Rattle.bus.proofs.Tests.{slot-read, other-read, not-not}
 use Rattle.bus.proofs.scan_of.Statement.{statement}
 use Rattle.bus.proofs.scan_of.Tie as tie
 
-holds-low-requires : tie.Need-holds-low-requires
-holds-low-requires c κs = search needs
-
 is-slot-requires : tie.Need-is-slot-requires
 is-slot-requires c κs = search needs
+
+holds-low-requires : tie.Need-holds-low-requires
+holds-low-requires c κs = search needs
 
 asked-requires : tie.Need-asked-requires
 asked-requires c κs = search needs
@@ -20,16 +20,16 @@ returns : tie.Need-returns
 unfolding scanWhere askedOf
 returns c =
     let a = c .before .before .before .before .args in
-    let slot = sym (c .before .before .is-slot .ensures) ∙ c .before .if1 .taken in
-    rw (c .asked .ensures, c .before .before .before .holds-low .ensures, ← not-not (masterHigh (eventOf (a .byte))), slot-read (eventOf (a .byte)) slot)
+    let slot = sym (c .before .before .before .is-slot .ensures) ∙ c .before .before .if1 .taken in
+    rw (c .asked .ensures, c .before .holds-low .ensures, ← not-not (masterHigh (eventOf (a .byte))), slot-read (eventOf (a .byte)) slot)
 
 returns-2 : tie.Need-returns-2
 unfolding scanWhere
 returns-2 c =
-    let a = c .before .before .before .args in
+    let a = c .before .before .args in
     let other = other-read (eventOf (a .byte)) (sym (c .before .is-slot .ensures) ∙ c .if1 .left) in
-    rw (c .before .before .holds-low .ensures, other .0, other .1)
+    rw (other .0, other .1)
 
 pub scan-of-spec : {M : Type 1} → statement M
 scan-of-spec =
-    tie.close (tie.spec holds-low-requires is-slot-requires asked-requires returns returns-2)
+    tie.close (tie.spec is-slot-requires holds-low-requires asked-requires returns returns-2)
