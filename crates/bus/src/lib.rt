@@ -520,10 +520,10 @@ pub fn level(lines: &[LineState], n: usize, byte: u8) -> Scan
 }
 
 // The devices from `from` on have their part in a slot at a level, up to the first whose transfer ends in it, or that a
-// regular slot finds at overdrive: this is its place, or n where there is none. Inside a transfer a slot only shifts the
-// register, and a device that waits is passed over, as is one at regular speed in a slot at overdrive. Nearly all turns
-// are of this kind, so they have a loop of their own, which loads no more of a line state than it asks for: what was
-// stored in parts is slow to load whole.
+// regular slot finds at overdrive: this is its place, or n where there is none. Inside a transfer a slot only shifts
+// the register, and a device that waits is passed over, as is one at regular speed in a slot at overdrive. Nearly all
+// turns are of this kind, so they have a loop of their own, which loads no more of a line state than it asks for: what
+// was stored in parts is slow to load whole.
 fn shift_all(lines: &mut [LineState], from: usize, n: usize, overdrive: bool, level: bool) -> usize
     requires { ⌜ (from ≤ n) × (n ≤ length (now lines)) ⌝ }
     ensures { λ r. ⌜ (r ≡ from + passesFrom overdrive (n - from) from (now (lines .entry)))

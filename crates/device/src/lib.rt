@@ -3,9 +3,10 @@
 //
 // A slot is two functions, which are given the level of the line in a slot that the device hears: `step` returns the
 // line state after it and only reads the body, for a search; `slot` returns the same line state, changes the body and
-// says what a copy did, for a run. A line state that the device cannot be in counts as waiting. The functions whose
-// names end in `as_is` leave that test out: no slot, reset or pulse leads out of the range (proofs/Range.antt), so that
-// a run, whose devices wait at the start, needs it nowhere.
+// says what a copy did, for a run. Inside a transfer both are `shifted`; its last slot, in which the stage decides, has
+// functions of its own, `ended_as_is` and `end_as_is`. A line state that the device cannot be in counts as waiting. The
+// functions with `as_is` in their names leave that test out: no slot, reset or pulse leads out of the range
+// (proofs/Range.antt), so that a run, whose devices wait at the start, needs it nowhere.
 use kind::Kind;
 use line::MemoryStage;
 use line::Stage;
@@ -314,6 +315,7 @@ impl LineState {
         self.transfer.left == 1
     }
 
+    // The device is at overdrive speed, else at regular speed.
     pub fn is_at_overdrive(self) -> bool
         ensures { λ r. ⌜ r ≡ self .overdrive ⌝ }
     {
