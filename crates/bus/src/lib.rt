@@ -2,7 +2,8 @@
 //
 // The image holds the devices' bodies, and a lent slice holds their line states. One device's part in an event is a
 // function by value over the image and its line state; the loops over all devices, over the trace, and the run above
-// them only fetch, call and store.
+// them only fetch, call and store. The loop of the slots, `shift_all`, also chooses: which method of a line state it
+// calls, by what other methods say of it.
 use device::LineState;
 use image::ACCEPTED;
 use kind::Kind;
@@ -141,7 +142,7 @@ fn leaves_high(byte: u8, state: LineState) -> bool
 }
 
 // The place of device i is found from its entry alone, so that the cost does not depend on i. A device that the image
-// does not have, or has no room for, has an empty body and no kind.
+// does not have, or for whose entry or body it has no room, has an empty body and no kind.
 pub fn place_of(image: &[u8], i: usize) -> Place
     ensures { λ r. ⌜ r ≡ placeIn (now (image .entry)) i ⌝ }
 {
@@ -170,7 +171,7 @@ fn holds_low(byte: u8) -> bool
     (byte == 0) | (byte == 4)
 }
 
-// All of n devices are asked for the level of an event but of one in which the master holds the line low: its level
+// All of n devices are asked for the level of an event, and none where the master holds the line low: the level then
 // does not depend on what they send.
 fn asked(byte: u8, n: usize) -> usize
     ensures { λ r. ⌜ r ≡ askedOf (eventOf byte) n ⌝ }
@@ -186,7 +187,8 @@ fn looks_on(high: bool, looked: usize, asked: usize) -> bool
 }
 
 // A scan is the level of an event, where `high` tells whether those that were asked leave the line high, together with
-// the number of devices that were looked at for it. Only those of a slot are counted.
+// the number of devices that were looked at for it. They are counted only in a slot in which the master does not hold
+// the line low.
 fn scan_of(byte: u8, high: bool, looked: usize) -> Scan
     ensures { λ r. ⌜ r ≡ scanWhere (eventOf byte) high looked ⌝ }
 {
@@ -240,9 +242,9 @@ fn unheard(state: LineState, overdrive: bool) -> LineState
     }
 }
 
-// This is device i's part in a slot at a level in which its transfer ends or which it does not hear, where `overdrive`
-// tells at which speed the slot comes. Only here is a body looked for. A run's line states are in range from the first
-// event on (proofs/Ranges.antt), so that no range is tested.
+// This is device i's part in a slot at a level that is the last of its transfer, or that comes at regular speed and
+// finds it at overdrive, where `overdrive` tells at which speed the slot comes. No other slot of a run looks for a
+// body. A run's line states are in range from the first event on (proofs/Ranges.antt), so that no range is tested.
 fn slot(image: &mut [u8], i: usize, state: LineState, overdrive: bool, level: bool) -> SlotTurn
     requires { ⌜ endsIn overdrive state ≡ true ⌝ }
     ensures { λ r. ⌜ (r ≡ slotTurn (turnState (now (image .entry)) i state (slotByte overdrive) level)
@@ -322,8 +324,8 @@ fn read_heard_pulse(image: &[u8], i: usize, state: LineState) -> LineState
     state.pulsed_as_is(&image[start..end])
 }
 
-// This is device i's line state after a slot at a level in which its transfer ends or which it does not hear, for a
-// search, which only reads the bodies.
+// This is device i's line state after a slot at a level that is the last of its transfer, or that comes at regular
+// speed and finds it at overdrive, for a search, which only reads the bodies.
 fn read_slot(image: &[u8], i: usize, state: LineState, overdrive: bool, level: bool) -> LineState
     requires { ⌜ endsIn overdrive state ≡ true ⌝ }
     ensures { λ r. ⌜ r ≡ turnState (now (image .entry)) i state (slotByte overdrive) level ⌝ }
@@ -520,10 +522,10 @@ pub fn level(lines: &[LineState], n: usize, byte: u8) -> Scan
 }
 
 // The devices from `from` on have their part in a slot at a level, up to the first whose transfer ends in it, or that a
-// regular slot finds at overdrive: this is its place, or n where there is none. Inside a transfer a slot only shifts
-// the register, and a device that waits is passed over, as is one at regular speed in a slot at overdrive. Nearly all
-// turns are of this kind, so they have a loop of their own, which loads no more of a line state than it asks for: what
-// was stored in parts is slow to load whole.
+// regular slot finds at overdrive. The number that is returned is the place of that device, or n where there is none.
+// Inside a transfer a slot only shifts the register, and a device that waits is passed over, as is one at regular speed
+// in a slot at overdrive. Nearly all turns are of this kind, so they have a loop of their own, which loads no more of a
+// line state than it asks for: what was stored in parts is slow to load whole.
 fn shift_all(lines: &mut [LineState], from: usize, n: usize, overdrive: bool, level: bool) -> usize
     requires { ⌜ (from ≤ n) × (n ≤ length (now lines)) ⌝ }
     ensures { λ r. ⌜ (r ≡ from + passesFrom overdrive (n - from) from (now (lines .entry)))

@@ -2,11 +2,12 @@
 // it and of its body.
 //
 // A slot is two functions, which are given the level of the line in a slot that the device hears: `step` returns the
-// line state after it and only reads the body, for a search; `slot` returns the same line state, changes the body and
-// says what a copy did, for a run. Inside a transfer both are `shifted`; its last slot, in which the stage decides, has
-// functions of its own, `ended_as_is` and `end_as_is`. A line state that the device cannot be in counts as waiting. The
-// functions with `as_is` in their names leave that test out: no slot, reset or pulse leads out of the range
-// (proofs/Range.antt), so that a run, whose devices wait at the start, needs it nowhere.
+// line state after it and only reads the body; `slot` returns the same line state, changes the body and says what a
+// copy did. Inside a transfer both are `shifted`; its last slot, in which the stage decides, has functions of its own,
+// `ended_as_is` and `end_as_is`. A search and a run know which slot it is, and call these three. In `sends`, `step`,
+// `slot`, `reset`, `pulsed` and `pulse` a line state that the device cannot be in counts as waiting. No other function
+// tests for that: no slot, reset or pulse leads out of the range (proofs/Range.antt), so that a run, whose devices wait
+// at the start, needs it nowhere.
 use kind::Kind;
 use line::MemoryStage;
 use line::Stage;
@@ -285,8 +286,7 @@ impl LineState {
 
     // ---- a line state as it is
 
-    // A device waits while it has no transfer under way. At regular speed it then sends ones and stays as it is until a
-    // reset.
+    // A device waits that is at regular speed and has no transfer under way: it stays as it is until a reset.
     pub fn waits(self) -> bool
         ensures { λ r. ⌜ r ≡ waits self ⌝ }
     {
@@ -300,8 +300,8 @@ impl LineState {
         line::sends(self.transfer.register)
     }
 
-    // A transfer goes on while the next slot is not its last. Such a slot needs neither the kind nor the body, and
-    // changes no body.
+    // A transfer goes on if slots are left of it after the next one. The next one then needs neither the kind nor the
+    // body, and changes no body.
     pub fn goes_on(self) -> bool
         ensures { λ r. ⌜ r ≡ goesOn (self .transfer) ⌝ }
     {
@@ -322,7 +322,8 @@ impl LineState {
         self.overdrive
     }
 
-    // This is the line state after a slot at a level that is not the last of its transfer.
+    // This is the line state after a slot at a level that does no more than shift the register: one after which slots
+    // of the transfer are left.
     pub fn shifted(self, level: bool) -> LineState
         ensures { λ r. ⌜ r ≡ lineState (shifted (self .transfer) level) (self .overdrive) ⌝ }
     {

@@ -199,8 +199,8 @@ pub fn under_way(slots: u8, left: u8) -> bool
 
 // ---- a slot of a transfer
 
-// The functions of a slot are given the number that they need and not the transfer: a struct that goes to a function is
-// copied whole, and what was stored by the byte is slow to load so.
+// The functions of a slot are given the number that they need and not the transfer: the compiler may load whole what
+// goes to a function as a struct, and what was stored by the byte is slow to load so.
 
 // A device sends the lowest bit of its register.
 pub fn sends(register: u8) -> bool
