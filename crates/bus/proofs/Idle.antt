@@ -22,7 +22,7 @@ use Rattle.bus.specs.declared.Event.the-variants.{Slot, Reset, Pulse, Ov
 use Rattle.bus.specs.declared.Place.{Place}
 use Rattle.bus.specs.declared.SlotTurn.{SlotTurn}
 use Rattle.bus.specs.Bus.{Device, eventOf, takenState, hears, heardState, heardBody, unheardState, heardCopied, nextState, nextBody, copiedIn, isSlot, isOverdrive}
-use Rattle.bus.specs.Loops.{heardStateAsIs, heardBodyAsIs, heardCopiedAsIs, slotByte, kindIn, bodyIn, endsIn, passState}
+use Rattle.bus.specs.Loops.{heardStateAsIs, heardBodyAsIs, heardCopiedAsIs, slotByte, kindIn, bodyIn, endsIn, shiftsIn, passState}
 use Rattle.bus.specs.Loops.{nextStateAsIs, nextBodyAsIs, passedOver, placeIn, deviceAtPlace, deviceIn, imageWithBody, turnState, turnImage}
 use Rattle.bus.specs.Loops.{slotTurn, copiedAsIs, turnCopied, mostCopied, addedTo, copiedUpTo}
 use Rattle.bus.specs.Loops.{lineAt, BusState, busState, turnAt, turnsUpTo, turnStatesFrom, turnStatesOf}
@@ -348,7 +348,7 @@ nothing-left (suc zero) e f = absurd (true≢false f)
 nothing-left (suc (suc left)) e f = absurd (true≢false (sym (lt-ltb 1 (suc (suc left)) (omega arith)) ∙ e))
 
 passes : (overdrive speed : Bool) (state : LineState) → state .overdrive ≡ speed → endsIn overdrive state ≡ false → Passes overdrive state
-unfolding endsIn passState slotByte eventOf hears unheardState
+unfolding endsIn shiftsIn passState slotByte eventOf hears unheardState
 passes true true state s e = choose (goesOn (state .transfer)) refl
   where
     choose : (b : Bool) → goesOn (state .transfer) ≡ b → Passes true state

@@ -57,8 +57,9 @@ event-result-shape = record { lifetimes = 0; outlives = []; kinds = dataK scan �
 abbrev pub run-result-shape : Shape
 run-result-shape = record { lifetimes = 0; outlives = []; kinds = dataK (num w32) ∷ dataK (num w64) ∷ []; gives = ran }
 
-abbrev pub waits-shape : Shape
-waits-shape = record { lifetimes = 0; outlives = []; kinds = dataK line ∷ []; gives = truth }
+-- of a question about a line state in a slot at a speed
+abbrev pub in-slot-shape : Shape
+in-slot-shape = record { lifetimes = 0; outlives = []; kinds = dataK line ∷ dataK truth ∷ []; gives = truth }
 
 abbrev pub device-count-shape : Shape
 device-count-shape = record {
@@ -125,7 +126,7 @@ level-shape = record {
   gives = scan;
 }
 
--- the same of what else asks a line state for a truth, and of what gives one back after a level
+-- of what gives a line state back after a level
 abbrev pub shifted-shape : Shape
 shifted-shape = record { lifetimes = 0; outlives = []; kinds = dataK line ∷ dataK truth ∷ []; gives = line }
 

@@ -1,107 +1,29 @@
 -- The devices that a slot only shifts or passes over, up to the first to which more happens: how many they are, and that
 -- their turns are those of `turnsUpTo`. Assumes nothing.
 use Prim.Native.Nat.{ℕ, zero, suc, _+_, _-_, _<_, _≤_}
-use mathlib.Core.Path.{_≡_, refl, sym, ap, subst, _∙_}
-use mathlib.Core.Bool.{Bool, true, false, not, cond, _&&_, _||_, Bool·beq, true≢false}
+use mathlib.Core.Path.{_≡_, refl, ap, subst, _∙_}
+use mathlib.Core.Bool.{Bool, true, false, cond}
 use mathlib.Core.List.{List, [], _∷_}
 use native.Mathlib.Omega.{arith}
 use lib.ListN.{length, set, length-set}
-use lib.Dec.{eqb, ltb}
-use borrow.Author.Tests.{lt-ltb, eqb-true}
-use Rattle.line.specs.Transfers.{goesOn, lastSlot, shifted}
+use Rattle.line.specs.Transfers.{shifted}
 use Rattle.device.specs.declared.LineState.{LineState}
-use Rattle.device.specs.Device.{lineState, waitingState, waits}
-use Rattle.bus.specs.Loops.{slotByte, endsIn, passState, passesFrom, shiftedFrom, lineAt, BusState, busState, turnState, turnImage}
+use Rattle.device.specs.Device.{lineState}
+use Rattle.bus.specs.Loops.{slotByte, endsIn, shiftsIn, passState, passesFrom, shiftedFrom, lineAt, BusState, busState, turnState, turnImage}
 use Rattle.bus.specs.Loops.{turnAt, turnsUpTo, turnCopied, copiedUpTo, addedTo}
 use Rattle.bus.proofs.Idle.{pass-state, pass-image, pass-copied, added-none}
 use Rattle.bus.proofs.States.{steps}
 
 -- ---- one of them
 
-never : (b : Bool) → (b && false) ≡ false
-never true = refl
-never false = refl
-
-same : (b : Bool) → Bool·beq b b ≡ true
-same true = refl
-same false = refl
-
-other : (b : Bool) → Bool·beq (not b) b ≡ false
-other true = refl
-other false = refl
-
--- inside a transfer at the slot's speed the register is shifted; without one, or at the other speed, it stays
-pub pass-on : (f t : Bool) (l : LineState) → l .overdrive ≡ f → goesOn (l .transfer) ≡ true
-    → passState f t l ≡ lineState (shifted (l .transfer) t) (l .overdrive)
+-- where it is shifted, and where it stays as it is
+pub pass-on : (f t : Bool) (l : LineState) → shiftsIn f l ≡ true → passState f t l ≡ lineState (shifted (l .transfer) t) (l .overdrive)
 unfolding passState
-pass-on f t l e g =
-    let own : Bool·beq (l .overdrive) f ≡ true = ap (λ (b : Bool). Bool·beq b f) e ∙ same f in
-    rw (own, g)
+pass-on f t l e = rw e
 
-pub pass-still : (f t : Bool) (l : LineState) → goesOn (l .transfer) ≡ false → passState f t l ≡ l
+pub pass-still : (f t : Bool) (l : LineState) → shiftsIn f l ≡ false → passState f t l ≡ l
 unfolding passState
-pass-still f t l g =
-    let none : (Bool·beq (l .overdrive) f && goesOn (l .transfer)) ≡ false =
-    ap (λ (b : Bool). Bool·beq (l .overdrive) f && b) g ∙ never (Bool·beq (l .overdrive) f) in
-    rw none
-
-pub pass-deaf : (f t : Bool) (l : LineState) → l .overdrive ≡ not f → passState f t l ≡ l
-unfolding passState
-pass-deaf f t l e =
-    let none : Bool·beq (l .overdrive) f ≡ false = ap (λ (b : Bool). Bool·beq b f) e ∙ other f in
-    rw none
-
--- whether more happens to it
-pub ends-fast : (f : Bool) (l : LineState) → f ≡ true → l .overdrive ≡ true → endsIn f l ≡ lastSlot (l .transfer)
-unfolding endsIn
-ends-fast true l e o = ap (λ (b : Bool). b && lastSlot (l .transfer)) o
-ends-fast false l e o = absurd (true≢false (sym e))
-
-pub ends-lost : (f : Bool) (l : LineState) → f ≡ false → l .overdrive ≡ true → endsIn f l ≡ true
-unfolding endsIn
-ends-lost true l e o = absurd (true≢false e)
-ends-lost false l e o = ap (λ (b : Bool). b || lastSlot (l .transfer)) o
-
-pub ends-slow : (f : Bool) (l : LineState) → f ≡ false → l .overdrive ≡ false → endsIn f l ≡ lastSlot (l .transfer)
-unfolding endsIn
-ends-slow true l e o = absurd (true≢false e)
-ends-slow false l e o = ap (λ (b : Bool). b || lastSlot (l .transfer)) o
-
-pub ends-deaf : (f : Bool) (l : LineState) → f ≡ true → l .overdrive ≡ false → endsIn f l ≡ false
-unfolding endsIn
-ends-deaf true l e o = ap (λ (b : Bool). b && lastSlot (l .transfer)) o
-ends-deaf false l e o = absurd (true≢false (sym e))
-
--- one at regular speed that does not wait, and is not in its last slot, is inside a transfer
-goes : (left : ℕ) → eqb left 0 ≡ false → eqb left 1 ≡ false → ltb 1 left ≡ true
-goes zero e g = absurd (true≢false e)
-goes (suc zero) e g = absurd (true≢false g)
-goes (suc (suc left)) e g = lt-ltb 1 (suc (suc left)) (omega arith)
-
-and-true : (b : Bool) → (b && true) ≡ b
-and-true true = refl
-and-true false = refl
-
-pub awake-goes : (l : LineState) → l .overdrive ≡ false → waits l ≡ false → lastSlot (l .transfer) ≡ false → goesOn (l .transfer) ≡ true
-unfolding waits
-awake-goes l o w last =
-    goes (l .transfer .left)
-    (sym (ap (λ (b : Bool). eqb (l .transfer .left) 0 && not b) o ∙ and-true (eqb (l .transfer .left) 0)) ∙ w) last
-
-first : (a b : Bool) → (a && b) ≡ true → a ≡ true
-first true b e = refl
-first false b e = absurd (true≢false (sym e))
-
-none-left : (l : LineState) → waits l ≡ true → l .transfer .left ≡ 0
-unfolding waits
-none-left l w = eqb-true (l .transfer .left) 0 (first (eqb (l .transfer .left) 0) (not (l .overdrive)) w)
-
--- and of one that waits no slot is left
-pub waiting-still : (l : LineState) → waits l ≡ true → goesOn (l .transfer) ≡ false
-waiting-still l w = ap (λ (n : ℕ). ltb 1 n) (none-left l w)
-
-pub waiting-not-last : (l : LineState) → waits l ≡ true → lastSlot (l .transfer) ≡ false
-waiting-not-last l w = ap (λ (n : ℕ). eqb n 1) (none-left l w)
+pass-still f t l e = rw e
 
 -- ---- how many they are
 

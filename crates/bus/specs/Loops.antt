@@ -74,12 +74,14 @@ unfoldable pub endsIn : Bool → LineState → Bool
 endsIn true state = state .overdrive && lastSlot (state .transfer)
 endsIn false state = state .overdrive || lastSlot (state .transfer)
 
--- The others are left in this line state: inside a transfer that comes at the slot's speed the register is shifted, and
--- any other device stays as it is.
+-- A slot shifts the register of a device at its speed that is inside a transfer.
+unfoldable pub shiftsIn : Bool → LineState → Bool
+shiftsIn overdrive state = Bool·beq (state .overdrive) overdrive && goesOn (state .transfer)
+
+-- A slot leaves a device to which no more happens in this line state: any that is not shifted stays as it is.
 unfoldable pub passState : Bool → Bool → LineState → LineState
 passState overdrive level state =
-    cond (Bool·beq (state .overdrive) overdrive && goesOn (state .transfer))
-    (lineState (shifted (state .transfer) level) (state .overdrive)) state
+    cond (shiftsIn overdrive state) (lineState (shifted (state .transfer) level) (state .overdrive)) state
 
 -- The place of device i is its kind and where its body lies in the image. A device that the image does not have, or has
 -- no whole entry or no room for, has an empty body and no kind.

@@ -2,8 +2,7 @@
 //
 // The image holds the devices' bodies, and a lent slice holds their line states. One device's part in an event is a
 // function by value over the image and its line state; the loops over all devices, over the trace, and the run above
-// them only fetch, call and store. The loop of the slots, `shift_all`, also chooses: which method of a line state it
-// calls, by what other methods say of it.
+// them only fetch, call and store.
 use device::LineState;
 use image::ACCEPTED;
 use kind::Kind;
@@ -20,7 +19,7 @@ ghost use Rattle.bus.specs.Refusal.{someByte, badTrace, noFirstReset, ba
 ghost use Rattle.bus.specs.Refusal.{runRefusal};
 ghost use Rattle.bus.specs.Run.{RunLeaves, runOf, runResult};
 ghost use Rattle.bus.specs.Loops.{placeIn, askedOf, goesOnAt, scanWhere, turnState, turnImage, leavesHigh};
-ghost use Rattle.bus.specs.Loops.{slotByte, imageWithBody, bodyIn, endsIn, passesFrom, shiftedFrom};
+ghost use Rattle.bus.specs.Loops.{slotByte, imageWithBody, bodyIn, endsIn, shiftsIn, passesFrom, shiftedFrom};
 ghost use Rattle.bus.specs.Loops.{turnCopied, slotTurn, addedTo, copiedUpTo, copiedOn, eventResult};
 ghost use Rattle.bus.specs.Loops.{copiedByEvents};
 ghost use Rattle.bus.specs.Loops.{fewerOf, scanOn, stepOn};
@@ -240,6 +239,24 @@ fn unheard(state: LineState, overdrive: bool) -> LineState
     } else {
         LineState::waiting()
     }
+}
+
+// A slot does more to a device than shift its register where it is the last of the device's transfer, or where it comes
+// at regular speed and finds the device at overdrive.
+fn ends_in(state: LineState, overdrive: bool) -> bool
+    ensures { λ r. ⌜ r ≡ endsIn overdrive state ⌝ }
+{
+    if !overdrive {
+        return state.is_at_overdrive() | state.is_last();
+    }
+    state.is_at_overdrive() & state.is_last()
+}
+
+// A slot shifts the register of a device at its speed that is inside a transfer.
+fn shifts_in(state: LineState, overdrive: bool) -> bool
+    ensures { λ r. ⌜ r ≡ shiftsIn overdrive state ⌝ }
+{
+    (state.is_at_overdrive() == overdrive) & state.goes_on()
 }
 
 // This is device i's part in a slot at a level that is the last of its transfer, or that comes at regular speed and
@@ -536,26 +553,11 @@ fn shift_all(lines: &mut [LineState], from: usize, n: usize, overdrive: bool, le
     let mut i: usize = from;
     while i < n {
         let state = lines[i];
-        if state.is_at_overdrive() {
-            if overdrive {
-                if state.is_last() {
-                    break;
-                }
-                if state.goes_on() {
-                    lines[i] = state.shifted(level);
-                }
-            } else {
-                break;
-            }
-        } else {
-            if !overdrive {
-                if !state.waits() {
-                    if state.is_last() {
-                        break;
-                    }
-                    lines[i] = state.shifted(level);
-                }
-            }
+        if ends_in(state, overdrive) {
+            break;
+        }
+        if shifts_in(state, overdrive) {
+            lines[i] = state.shifted(level);
         }
         i = i + 1;
     }

@@ -9,41 +9,30 @@ use Rattle.walks.proofs.Walk.{tablesOf, Memory, Routine, Heap, Tables, Atoms, G
 use Rattle.walks.proofs.Walk.{stop, hop, from, lit, of-opd, no-more, bin, assigns-last, returns, Is, u64, RefT, Room, row}
 use Rattle.walks.proofs.Walk.{cited, Cell, void, has, Blocks, env, stand, quits, lowers, Walk, Met, enters, asks, finishes}
 use Rattle.walks.proofs.Walk.{proved, var, head, new, bump, ptr, val, points, lands-new, Opened, opens-mut, closes-mut, also}
-use Rattle.walks.proofs.Walk.{sees, in-row, elem, onto-row, loops-in, goes-in, goes-out, ifs-out, whether, skips, jumps, branches}
+use Rattle.walks.proofs.Walk.{sees, in-row, elem, onto-row, loops-in, goes-in, goes-out, ifs-out, whether, skips, jumps}
 use Rattle.walks.proofs.Walk.{Post, Sq, Seq, prop, post, next, runs, atRet, End}
 use types.Kit.{Goal}
-use types.Run.{un}
 use Prim.Native.Nat.{_-_}
-use mathlib.Core.Bool.{Bool, true, false, not}
+use mathlib.Core.Bool.{Bool, true, false}
 use lib.ListN.{set}
 use lib.Dec.{ltb}
-use borrow.Author.Tests.{ltb-true, ltb-false, not-true, not-false}
-use Rattle.line.specs.Transfers.{goesOn, lastSlot, shifted as shiftedTransfer}
+use borrow.Author.Tests.{ltb-true, ltb-false}
+use Rattle.line.specs.Transfers.{shifted as shiftedTransfer}
 use Rattle.device.specs.declared.LineState.{LineState}
 use Rattle.device.specs.Device.{lineState, waitingState}
-use Rattle.device.specs.Device.{waits as waitsOf}
-use Rattle.bus.specs.Loops.{lineAt, endsIn, passState, passesFrom, shiftedFrom}
+use Rattle.bus.specs.Loops.{lineAt, endsIn, shiftsIn, passesFrom, shiftedFrom}
 use Rattle.bus.proofs.Idle.{set-same}
-use Rattle.bus.proofs.Shifts.{passes-few, passes-end, passes-on, shifted-length, shifted-behind, pass-on, pass-still, pass-deaf}
-use Rattle.bus.proofs.Shifts.{ends-fast, ends-lost, ends-slow, ends-deaf, awake-goes, waiting-still, waiting-not-last}
+use Rattle.bus.proofs.Shifts.{passes-few, passes-end, passes-on, shifted-length, shifted-behind, pass-on, pass-still}
 use Rattle.bus.proofs.Lines.{width, fits-at, T-true, T-false, R, mach, typed, line}
-use Rattle.bus.proofs.Shapes.{shift-all-shape as shape, waits-shape, shifted-shape}
-use Rattle.device.proofs.LineState.is_at_overdrive as is-at-overdrive
-use Rattle.device.proofs.LineState.is_at_overdrive.Symbol as is-at-overdrive-def
-use Rattle.device.proofs.LineState.is_at_overdrive.Symbol.{name as #device·is-at-overdrive}
-use Rattle.device.proofs.LineState.is_at_overdrive.Met as is-at-overdrive-thm
-use Rattle.device.proofs.LineState.is_last as is-last
-use Rattle.device.proofs.LineState.is_last.Symbol as is-last-def
-use Rattle.device.proofs.LineState.is_last.Symbol.{name as #device·is-last}
-use Rattle.device.proofs.LineState.is_last.Met as is-last-thm
-use Rattle.device.proofs.LineState.goes_on as goes-on
-use Rattle.device.proofs.LineState.goes_on.Symbol as goes-on-def
-use Rattle.device.proofs.LineState.goes_on.Symbol.{name as #device·goes-on}
-use Rattle.device.proofs.LineState.goes_on.Met as goes-on-thm
-use Rattle.device.proofs.LineState.waits as waits
-use Rattle.device.proofs.LineState.waits.Symbol as waits-def
-use Rattle.device.proofs.LineState.waits.Symbol.{name as #device·waits}
-use Rattle.device.proofs.LineState.waits.Met as waits-thm
+use Rattle.bus.proofs.Shapes.{shift-all-shape as shape, in-slot-shape, shifted-shape}
+use Rattle.bus.proofs.ends_in as ends-in
+use Rattle.bus.proofs.ends_in.Symbol as ends-in-def
+use Rattle.bus.proofs.ends_in.Symbol.{name as #bus·ends-in}
+use Rattle.bus.proofs.ends_in.Met as ends-in-thm
+use Rattle.bus.proofs.shifts_in as shifts-in
+use Rattle.bus.proofs.shifts_in.Symbol as shifts-in-def
+use Rattle.bus.proofs.shifts_in.Symbol.{name as #bus·shifts-in}
+use Rattle.bus.proofs.shifts_in.Met as shifts-in-thm
 use Rattle.device.proofs.LineState.shifted as shifted
 use Rattle.device.proofs.LineState.shifted.Symbol as shifted-def
 use Rattle.device.proofs.LineState.shifted.Symbol.{name as #device·shifted}
@@ -60,10 +49,8 @@ Ask κs a = (a .1 .0 ≤ a .1 .1 .0) × (a .1 .1 .0 ≤ length (a .0 .now))
 module _ {M : Type 1} (𝓤 : URA M) (H : Heap 𝓤) (A : Atoms 𝓤) (W : Given 𝓤 H A) (mem : Memory → SProp 𝓤)
     (run : Routine → Fun 𝓤)
     (𝓣 : Tables 𝓤 H)
-    (known-fast : Met 𝓤 H A 𝓣 waits-shape (is-at-overdrive.clauses 𝓤 H A mem run) #device·is-at-overdrive)
-    (known-last : Met 𝓤 H A 𝓣 waits-shape (is-last.clauses 𝓤 H A mem run) #device·is-last)
-    (known-goes : Met 𝓤 H A 𝓣 waits-shape (goes-on.clauses 𝓤 H A mem run) #device·goes-on)
-    (known-waits : Met 𝓤 H A 𝓣 waits-shape (waits.clauses 𝓤 H A mem run) #device·waits)
+    (known-ends : Met 𝓤 H A 𝓣 in-slot-shape (ends-in.clauses 𝓤 H A mem run) #bus·ends-in)
+    (known-shifts : Met 𝓤 H A 𝓣 in-slot-shape (shifts-in.clauses 𝓤 H A mem run) #bus·shifts-in)
     (known-shifted : Met 𝓤 H A 𝓣 shifted-shape (shifted.clauses 𝓤 H A mem run) #device·shifted)
     (κs : Lfts 1) (qs : Shares 1) (x : RefT (List LineState)) (m n : ℕ) (f t : Bool) where
   abbrev ys : List LineState
@@ -118,13 +105,13 @@ module _ {M : Type 1} (𝓤 : URA M) (H : Heap 𝓤) (A : Atoms 𝓤) (W : Given
   counted k = omega arith
 
   -- the line states where the next one is stored, and where it stays as it is
-  stored : (k : ℕ) → l k .overdrive ≡ f → goesOn (l k .transfer) ≡ true → us (suc k) ≡ set (us k) (m + k) (r k)
+  stored : (k : ℕ) → shiftsIn f (l k) ≡ true → us (suc k) ≡ set (us k) (m + k) (r k)
   unfolding shiftedFrom
-  stored k e g = ap (λ (s : LineState). set (us k) (m + k) s) (pass-on f t (l k) e g)
+  stored k e = ap (λ (s : LineState). set (us k) (m + k) s) (pass-on f t (l k) e)
 
-  kept : (k : ℕ) → passState f t (l k) ≡ l k → us (suc k) ≡ us k
+  kept : (k : ℕ) → shiftsIn f (l k) ≡ false → us (suc k) ≡ us k
   unfolding shiftedFrom
-  kept k e = ap (λ (s : LineState). set (us k) (m + k) s) e ∙ set-same (us k) (m + k)
+  kept k e = ap (λ (s : LineState). set (us k) (m + k) s) (pass-still f t (l k) e) ∙ set-same (us k) (m + k)
 
   -- the code behind the loop, where the next device is the first to which more happens, or there is none
   ends : (bs : Blocks (code.function .locals)) (k : ℕ) → p ≡ k → m + k < 2 ^ 64 → Is u64 m (vint w64 m ∷ []) → Is u64 n (vint w64 n ∷ [])
@@ -133,7 +120,7 @@ module _ {M : Type 1} (𝓤 : URA M) (H : Heap 𝓤) (A : Atoms 𝓤) (W : Given
       (atRet (env 𝓤 H (code.function .locals) bs) (End 𝓤 H shape A (shift-all.clauses 𝓤 H A mem run) κs qs tt (x, (m, (n, (f, (t, tt))))) tt)))
   ends bs k is-k i-fits m-is n-is room =
       new ! (of-opd ! (var ! refl)) refl (tt, record { fits = i-fits }) $
-      move ! (27 ∷ 28 ∷ []) $ closes-mut ! tt R (κs .0) (x .name) ys (us k) (shifted-length f t m k ys) b o room $ lowers ! 2 27 $
+      move ! (18 ∷ 19 ∷ []) $ closes-mut ! tt R (κs .0) (x .name) ys (us k) (shifted-length f t m k ys) b o room $ lowers ! 2 18 $
       returns ! (look ! 0 refl) $ quits ! (has (vint w64 (m + k)) ∷ vs (m + k)) $ move ! (1 ∷ 0 ∷ []) $
       finishes 𝓤 H shape A (shift-all.clauses 𝓤 H A mem run) κs qs tt (x, (m, (n, (f, (t, tt))))) tt W ! (m + k)
       (us k, (tt, (tt, (tt, (tt, tt))))) (refl, i-fits) (m-is, (n-is, (refl, (refl, tt))))
@@ -149,14 +136,14 @@ module _ {M : Type 1} (𝓤 : URA M) (H : Heap 𝓤) (A : Atoms 𝓤) (W : Given
       let end : m + c ≡ n = omega (arith, pre .0) in
       enters ! shape κs (x, (m, (n, (f, (t, tt))))) 𝓣 code.function are refl (λ bs.
       new ! (of-opd ! (var ! refl)) refl (tt, record { fits = m-is .1 }) $
-      move ! (28 ∷ 27 ∷ []) $ opens-mut ! tt R (κs .0) x $ lowers ! 2 27 $
+      move ! (19 ∷ 18 ∷ []) $ opens-mut ! tt R (κs .0) x $ lowers ! 2 18 $
       at-start bs (
       loops-in ! 𝓣 (λ left k. (k + left ≡ c) × (k ≤ p)) (At bs)
       -- a turn is made where no more happens to those before
       (λ left k ok Q on out.
       let i-fits : m + k < 2 ^ 64 = omega (arith, n-is .1, ok .0, end) in
       whether ! (ltb (m + k) n)
-      -- there is a next device: its line state is copied, and asked for its speed
+      -- there is a next device: its line state is copied, and asked whether more happens to it than a shift
       (λ less.
       let small : m + k < n = ltb-true (m + k) n less in
       let more : k < c = omega (arith, small, end) in
@@ -170,92 +157,36 @@ module _ {M : Type 1} (𝓤 : URA M) (H : Heap 𝓤) (A : Atoms 𝓤) (W : Given
       goes-in ! (var ! refl) (var ! refl) small refl tt refl $
       new ! (bin ! (var ! refl) (lit ! tt) (record { fits = at-fits })) refl (tt, record { fits = at-fits }) $
       points ! width (m + k) (head ! refl refl) (var ! refl) refl tt $
-      sees ! line 27 fullShare (us k) (m + k) waitingState b o within refl (λ is.
-      new ! (of-opd ! (elem ! refl (in-row ! line 27 fullShare (us k) (m + k) waitingState b o within refl refl))) refl
+      sees ! line 18 fullShare (us k) (m + k) waitingState b o within refl (λ is.
+      new ! (of-opd ! (elem ! refl (in-row ! line 18 fullShare (us k) (m + k) waitingState b o within refl refl))) refl
       (typed 𝓤 H A W (l k) (mach (l k)) is) $
       new ! (of-opd ! (var ! refl)) refl (typed 𝓤 H A W (l k) (mach (l k)) is) $
-      asks ! 𝓣 waits-shape (is-at-overdrive.clauses 𝓤 H A mem run) known-fast tt tt tt (l k, tt) (mach (l k) ∷ [], tt) tt (is, tt)
-      (id⊢ 𝓤 _) (λ h ws. h ≡ l k .overdrive) (λ h ws. id⊢ 𝓤 _) (l k .overdrive) (tt, tt) (λ h ws e. (e, refl))
-      (also ! refl (no-more !)) [] refl (λ _ _. lands-new ! refl (tt, tt) $ ifs-out ! (var ! refl)
-      -- it is at overdrive
-      (λ Q₁ on₁ out₁ fast-so.
-      let fast : l k .overdrive ≡ true = T-true (l k .overdrive) fast-so in
-      new ! (of-opd ! (var ! refl)) refl (tt, tt) $ branches ! (var ! refl)
-      -- and so is the slot: more happens only in the last slot of a transfer
-      (λ f-so.
-      let f-is : f ≡ true = T-true f f-so in
-      asks ! 𝓣 waits-shape (is-last.clauses 𝓤 H A mem run) known-last tt tt tt (l k, tt) (mach (l k) ∷ [], tt) tt (is, tt)
-      (id⊢ 𝓤 _) (λ h ws. h ≡ lastSlot (l k .transfer)) (λ h ws. id⊢ 𝓤 _) (lastSlot (l k .transfer)) (tt, tt) (λ h ws e. (e, refl))
-      (also ! refl (no-more !)) [] refl (λ _ _. lands-new ! refl (tt, tt) $ ifs-out ! (var ! refl)
-      (λ Q₂ on₂ out₂ last-so. jumps ! $ out₂ _ (out₁ _ (out _ (
-      forget ! 7 refl $ forget ! 8 refl $ forget ! 9 refl $ forget ! 10 refl $ forget ! 11 refl $ forget ! 12 refl $ forget ! 13 refl $ forget ! 14 refl $
-      ends bs k (stop-here (ends-fast f (l k) f-is fast ∙ T-true (lastSlot (l k .transfer)) last-so)) i-fits m-is n-is room))))
-      (λ Q₂ on₂ out₂ last-so.
-      let go : suc k ≤ p = go-on (ends-fast f (l k) f-is fast ∙ T-false (lastSlot (l k .transfer)) last-so) in
-      skips ! $ on₂ _ (
-      asks ! 𝓣 waits-shape (goes-on.clauses 𝓤 H A mem run) known-goes tt tt tt (l k, tt) (mach (l k) ∷ [], tt) tt (is, tt)
-      (id⊢ 𝓤 _) (λ h ws. h ≡ goesOn (l k .transfer)) (λ h ws. id⊢ 𝓤 _) (goesOn (l k .transfer)) (tt, tt) (λ h ws e. (e, refl))
-      (also ! refl (no-more !)) [] refl (λ _ _. lands-new ! refl (tt, tt) $ branches ! (var ! refl)
-      (λ goes-so.
+      asks ! 𝓣 in-slot-shape (ends-in.clauses 𝓤 H A mem run) known-ends tt tt tt (l k, (f, tt)) (mach (l k) ∷ [], (vbool f ∷ [], tt)) tt
+      (is, (refl, tt)) (id⊢ 𝓤 _) (λ h ws. h ≡ endsIn f (l k)) (λ h ws. id⊢ 𝓤 _) (endsIn f (l k)) (tt, (tt, tt)) (λ h ws e. (e, refl))
+      (also ! refl (also ! refl (no-more !))) [] refl (λ _ _. lands-new ! refl (tt, tt) $ ifs-out ! (var ! refl)
+      -- more does
+      (λ Q₁ on₁ out₁ ends-so. jumps ! $ out₁ _ (out _ (
+      forget ! 7 refl $ forget ! 8 refl $ forget ! 9 refl $ forget ! 10 refl $ forget ! 11 refl $ forget ! 12 refl $
+      ends bs k (stop-here (T-true (endsIn f (l k)) ends-so)) i-fits m-is n-is room)))
+      -- no more does, and it is asked whether it is shifted
+      (λ Q₁ on₁ out₁ ends-so.
+      let go : suc k ≤ p = go-on (T-false (endsIn f (l k)) ends-so) in
+      skips ! $ on₁ _ (
+      asks ! 𝓣 in-slot-shape (shifts-in.clauses 𝓤 H A mem run) known-shifts tt tt tt (l k, (f, tt)) (mach (l k) ∷ [], (vbool f ∷ [], tt)) tt
+      (is, (refl, tt)) (id⊢ 𝓤 _) (λ h ws. h ≡ shiftsIn f (l k)) (λ h ws. id⊢ 𝓤 _) (shiftsIn f (l k)) (tt, (tt, tt)) (λ h ws e. (e, refl))
+      (also ! refl (also ! refl (no-more !))) [] refl (λ _ _. lands-new ! refl (tt, tt) $ ifs-out ! (var ! refl)
+      (λ Q₂ on₂ out₂ shifts-so.
       asks ! 𝓣 shifted-shape (shifted.clauses 𝓤 H A mem run) known-shifted tt tt tt (l k, (t, tt)) (mach (l k) ∷ [], (vbool t ∷ [], tt)) tt
       (is, (refl, tt)) (id⊢ 𝓤 _) (λ h ws. h ≡ r k) (λ h ws. id⊢ 𝓤 _) (r k) (tt, (tt, tt)) (λ h ws e. (e, refl))
       (also ! refl (also ! refl (no-more !))) [] refl (λ got _. lands-new ! refl (typed 𝓤 H A W (r k) (mach (r k)) got) $
       new ! (bin ! (var ! refl) (lit ! tt) (record { fits = at-fits })) refl (tt, record { fits = at-fits }) $
       points ! width (m + k) (head ! refl refl) (var ! refl) refl tt $
-      assigns-last ! (of-opd ! (var ! refl)) (from ! (hop ! (look ! 18 refl) (stop !)))
-      (onto-row ! line 27 (us k) (m + k) waitingState (r k) b o within refl refl got (typed 𝓤 H A W (r k) (mach (r k)) got)) $
-      on₁ _ (bump ! refl next-fits tt $ forget ! 7 refl $ forget ! 8 refl $ forget ! 9 refl $ forget ! 10 refl $ forget ! 11 refl $ forget ! 12 refl $ forget ! 13 refl $ forget ! 14 refl $ forget ! 15 refl $ forget ! 16 refl $ forget ! 17 refl $ forget ! 18 refl $
-      as-same Q bs (counted k) (stored k (fast ∙ sym f-is) (T-true (goesOn (l k .transfer)) goes-so)) (on (left - 1) (suc k) (omega (arith, ok .0, more)) (omega (arith, ok .0, more), go)))))
-      (λ still-so. skips ! $ on₁ _ (bump ! refl next-fits tt $ forget ! 7 refl $ forget ! 8 refl $ forget ! 9 refl $ forget ! 10 refl $ forget ! 11 refl $ forget ! 12 refl $ forget ! 13 refl $ forget ! 14 refl $ forget ! 15 refl $
-      as-same Q bs (counted k) (kept k (pass-still f t (l k) (T-false (goesOn (l k .transfer)) still-so))) (on (left - 1) (suc k) (omega (arith, ok .0, more)) (omega (arith, ok .0, more), go)))))))))
-      -- the slot is a regular one
-      (λ f-so. jumps ! $ out₁ _ (out _ (
-      forget ! 7 refl $ forget ! 8 refl $ forget ! 9 refl $ forget ! 10 refl $ forget ! 11 refl $ forget ! 12 refl $ forget ! 13 refl $
-      ends bs k (stop-here (ends-lost f (l k) (T-false f f-so) fast)) i-fits m-is n-is room))))
-      -- it is at regular speed
-      (λ Q₁ on₁ out₁ slow-so.
-      let slow : l k .overdrive ≡ false = T-false (l k .overdrive) slow-so in
-      new ! (un ! (var ! refl) tt) refl (tt, tt) $ branches ! (var ! refl)
-      -- and so is the slot
-      (λ f-so.
-      let f-is : f ≡ false = not-true f (T-true (not f) f-so) in
-      asks ! 𝓣 waits-shape (waits.clauses 𝓤 H A mem run) known-waits tt tt tt (l k, tt) (mach (l k) ∷ [], tt) tt (is, tt)
-      (id⊢ 𝓤 _) (λ h ws. h ≡ waitsOf (l k)) (λ h ws. id⊢ 𝓤 _) (waitsOf (l k)) (tt, tt) (λ h ws e. (e, refl))
-      (also ! refl (no-more !)) [] refl (λ _ _. lands-new ! refl (tt, tt) $
-      new ! (un ! (var ! refl) tt) refl (tt, tt) $ branches ! (var ! refl)
-      (λ awake-so.
-      let awake : waitsOf (l k) ≡ false = not-true (waitsOf (l k)) (T-true (not (waitsOf (l k))) awake-so) in
-      asks ! 𝓣 waits-shape (is-last.clauses 𝓤 H A mem run) known-last tt tt tt (l k, tt) (mach (l k) ∷ [], tt) tt (is, tt)
-      (id⊢ 𝓤 _) (λ h ws. h ≡ lastSlot (l k .transfer)) (λ h ws. id⊢ 𝓤 _) (lastSlot (l k .transfer)) (tt, tt) (λ h ws e. (e, refl))
-      (also ! refl (no-more !)) [] refl (λ _ _. lands-new ! refl (tt, tt) $ ifs-out ! (var ! refl)
-      (λ Q₂ on₂ out₂ last-so. jumps ! $ out₂ _ (out₁ _ (out _ (
-      forget ! 7 refl $ forget ! 8 refl $ forget ! 9 refl $ forget ! 10 refl $ forget ! 11 refl $ forget ! 12 refl $ forget ! 19 refl $ forget ! 20 refl $ forget ! 21 refl $ forget ! 22 refl $
-      ends bs k (stop-here (ends-slow f (l k) f-is slow ∙ T-true (lastSlot (l k .transfer)) last-so)) i-fits m-is n-is room))))
-      (λ Q₂ on₂ out₂ last-so.
-      let last : lastSlot (l k .transfer) ≡ false = T-false (lastSlot (l k .transfer)) last-so in
-      let go : suc k ≤ p = go-on (ends-slow f (l k) f-is slow ∙ last) in
-      skips ! $ on₂ _ (
-      asks ! 𝓣 shifted-shape (shifted.clauses 𝓤 H A mem run) known-shifted tt tt tt (l k, (t, tt)) (mach (l k) ∷ [], (vbool t ∷ [], tt)) tt
-      (is, (refl, tt)) (id⊢ 𝓤 _) (λ h ws. h ≡ r k) (λ h ws. id⊢ 𝓤 _) (r k) (tt, (tt, tt)) (λ h ws e. (e, refl))
-      (also ! refl (also ! refl (no-more !))) [] refl (λ got _. lands-new ! refl (typed 𝓤 H A W (r k) (mach (r k)) got) $
-      new ! (bin ! (var ! refl) (lit ! tt) (record { fits = at-fits })) refl (tt, record { fits = at-fits }) $
-      points ! width (m + k) (head ! refl refl) (var ! refl) refl tt $
-      assigns-last ! (of-opd ! (var ! refl)) (from ! (hop ! (look ! 25 refl) (stop !)))
-      (onto-row ! line 27 (us k) (m + k) waitingState (r k) b o within refl refl got (typed 𝓤 H A W (r k) (mach (r k)) got)) $
-      on₁ _ (bump ! refl next-fits tt $ forget ! 7 refl $ forget ! 8 refl $ forget ! 9 refl $ forget ! 10 refl $ forget ! 11 refl $ forget ! 12 refl $ forget ! 19 refl $ forget ! 20 refl $ forget ! 21 refl $ forget ! 22 refl $ forget ! 23 refl $ forget ! 24 refl $ forget ! 25 refl $
-      as-same Q bs (counted k) (stored k (slow ∙ sym f-is) (awake-goes (l k) slow awake last)) (on (left - 1) (suc k) (omega (arith, ok .0, more)) (omega (arith, ok .0, more), go))))))))
-      (λ idle-so.
-      let idle : waitsOf (l k) ≡ true = not-false (waitsOf (l k)) (T-false (not (waitsOf (l k))) idle-so) in
-      let still : goesOn (l k .transfer) ≡ false = waiting-still (l k) idle in
-      let go : suc k ≤ p = go-on (ends-slow f (l k) f-is slow ∙ waiting-not-last (l k) idle) in
-      skips ! $ on₁ _ (bump ! refl next-fits tt $ forget ! 7 refl $ forget ! 8 refl $ forget ! 9 refl $ forget ! 10 refl $ forget ! 11 refl $ forget ! 12 refl $ forget ! 19 refl $ forget ! 20 refl $ forget ! 21 refl $
-      as-same Q bs (counted k) (kept k (pass-still f t (l k) still)) (on (left - 1) (suc k) (omega (arith, ok .0, more)) (omega (arith, ok .0, more), go))))))
-      -- the slot is one at overdrive
-      (λ f-so.
-      let f-is : f ≡ true = not-false f (T-false (not f) f-so) in
-      let go : suc k ≤ p = go-on (ends-deaf f (l k) f-is slow) in
-      skips ! $ on₁ _ (bump ! refl next-fits tt $ forget ! 7 refl $ forget ! 8 refl $ forget ! 9 refl $ forget ! 10 refl $ forget ! 11 refl $ forget ! 12 refl $ forget ! 19 refl $
-      as-same Q bs (counted k) (kept k (pass-deaf f t (l k) (slow ∙ sym (ap not f-is)))) (on (left - 1) (suc k) (omega (arith, ok .0, more)) (omega (arith, ok .0, more), go))))))))
+      assigns-last ! (of-opd ! (var ! refl)) (from ! (hop ! (look ! 16 refl) (stop !)))
+      (onto-row ! line 18 (us k) (m + k) waitingState (r k) b o within refl refl got (typed 𝓤 H A W (r k) (mach (r k)) got)) $
+      on₂ _ (bump ! refl next-fits tt $ forget ! 7 refl $ forget ! 8 refl $ forget ! 9 refl $ forget ! 10 refl $ forget ! 11 refl $ forget ! 12 refl $ forget ! 13 refl $ forget ! 14 refl $ forget ! 15 refl $ forget ! 16 refl $
+      as-same Q bs (counted k) (stored k (T-true (shiftsIn f (l k)) shifts-so)) (on (left - 1) (suc k) (omega (arith, ok .0, more)) (omega (arith, ok .0, more), go)))))
+      (λ Q₂ on₂ out₂ still-so. skips ! $ on₂ _ (bump ! refl next-fits tt $ forget ! 7 refl $ forget ! 8 refl $ forget ! 9 refl $ forget ! 10 refl $ forget ! 11 refl $ forget ! 12 refl $ forget ! 13 refl $
+      as-same Q bs (counted k) (kept k (T-false (shiftsIn f (l k)) still-so)) (on (left - 1) (suc k) (omega (arith, ok .0, more)) (omega (arith, ok .0, more), go))))))))))
       -- there is none
       (λ full.
       let past : n ≤ m + k = ltb-false (m + k) n full in
@@ -269,13 +200,8 @@ shift-all-spec 𝓤 H 𝓜 𝓖 𝓡 =
     proved 𝓤 H shape (𝓖 .A) (givenOf 𝓤 H 𝓜 𝓖) (shift-all.clauses 𝓤 H (𝓖 .A) (𝓜 .mem) (𝓡 .run)) Ask
     𝓜 𝓡 code.env #bus·shift-all code.function (code.unfolded 𝓤 H 𝓜 𝓡) (λ κs a g. id⊢ 𝓤 _)
     (λ κs qs bounds a g. walk 𝓤 H (𝓖 .A) (givenOf 𝓤 H 𝓜 𝓖) (𝓜 .mem) (𝓡 .run) (tablesOf 𝓤 H 𝓜 (tables 𝓤 H 𝓜 𝓡 code.env))
-    (cited 𝓤 H _ 𝓜 𝓡 code.env #device·is-at-overdrive is-at-overdrive-def.routine code.calls-device·LineState·is-at-overdrive
-    (is-at-overdrive-thm.met 𝓤 H 𝓜 𝓖 𝓡))
-    (cited 𝓤 H _ 𝓜 𝓡 code.env #device·is-last is-last-def.routine code.calls-device·LineState·is-last
-    (is-last-thm.met 𝓤 H 𝓜 𝓖 𝓡))
-    (cited 𝓤 H _ 𝓜 𝓡 code.env #device·goes-on goes-on-def.routine code.calls-device·LineState·goes-on
-    (goes-on-thm.met 𝓤 H 𝓜 𝓖 𝓡))
-    (cited 𝓤 H _ 𝓜 𝓡 code.env #device·waits waits-def.routine code.calls-device·LineState·waits (waits-thm.met 𝓤 H 𝓜 𝓖 𝓡))
+    (cited 𝓤 H _ 𝓜 𝓡 code.env #bus·ends-in ends-in-def.routine code.calls-bus·ends-in (ends-in-thm.met 𝓤 H 𝓜 𝓖 𝓡))
+    (cited 𝓤 H _ 𝓜 𝓡 code.env #bus·shifts-in shifts-in-def.routine code.calls-bus·shifts-in (shifts-in-thm.met 𝓤 H 𝓜 𝓖 𝓡))
     (cited 𝓤 H _ 𝓜 𝓡 code.env #device·shifted shifted-def.routine code.calls-device·LineState·shifted
     (shifted-thm.met 𝓤 H 𝓜 𝓖 𝓡))
     κs qs (a .0) (a .1 .0) (a .1 .1 .0) (a .1 .1 .1 .0) (a .1 .1 .1 .1 .0))
