@@ -1,5 +1,6 @@
 # The command, and what a C project needs to link the library.
 #   make                        target/command/troughiron
+#   make library                target/staticlib/libtroughiron.a
 #   make install                under PREFIX, by default /usr/local, with DESTDIR before it; make uninstall
 #   make install-all            the shared library, the guide and the examples too
 #   make dist, make deb         a tarball of all that, and a Debian package, in target/dist

@@ -1,6 +1,6 @@
--- A device that waits at regular speed has no part in a slot, one that does not hear a slot is left as the slot's speed says, and inside a
--- transfer a slot only shifts a device's register: the image stays. It stays too where a device does not hear an event. What the master sends
--- in a slot has no part in a device's turn, nor has the level of a reset or a pulse. Assumes nothing.
+-- A device that has no transfer under way has no part in a slot, one that does not hear a slot is left as the slot's speed says, and inside
+-- a transfer a slot only shifts a device's register: the image stays. It stays too where a device does not hear an event. What the master
+-- sends in a slot has no part in a device's turn, nor has the level of a reset or a pulse. Assumes nothing.
 use Prim.Native.Nat.{ℕ, zero, suc, _+_, _-_, _<_, _≤_}
 use mathlib.Core.Path.{_≡_, refl, sym, ap, _∙_}
 use mathlib.Core.Bool.{Bool, true, false, not, cond, _&&_, _||_, Bool·beq, true≢false}
@@ -9,35 +9,29 @@ use native.Mathlib.Omega.{arith}
 use lib.ListN.{length, set, take, drop, take-append-drop}
 use lib.Seq.{drop-drop}
 use lib.Dec.{ltb, eqb}
-use borrow.Author.Tests.{ltb-true, lt-ltb, le-ltb, ne-eqb, not-true}
-use Rattle.line.specs.Transfers.{goesOn, shifted}
+use borrow.Author.Tests.{ltb-true, lt-ltb, le-ltb, ne-eqb, eqb-true, not-true}
+use Rattle.line.specs.Transfers.{goesOn, lastSlot, received, shifted}
 use Rattle.device.specs.declared.LineState.{LineState}
-use Rattle.device.specs.Device.{lineState, waitingState, waits, stateAfterSlotAsIs, bodyAfterSlotAsIs, bytesInSlotAsIs}
-use Rattle.device.proofs.Range.{waits-waiting}
-use Rattle.device.proofs.Laws.{waiting-or-waiting, waiting-step, waiting-write, waiting-copies, going-on-steps, going-on-writes}
+use Rattle.device.specs.Device.{lineState, waitingState, stateAfterSlotAsIs, bodyAfterSlotAsIs, bytesInSlotAsIs, copyInSlotAsIs}
+use Rattle.device.specs.Device.{stageNext, stageSpeed, stageWrite, stageCopy}
+use Rattle.device.proofs.Range.{still-steps, still-writes, still-copies}
+use Rattle.device.proofs.Laws.{going-on-steps, going-on-writes, ending-steps, ending-writes, ending-copies}
 use Rattle.device.proofs.Laws.{going-on-copies}
 use Rattle.bus.specs.declared.Event.{Event}
 use Rattle.bus.specs.declared.Event.the-variants.{Slot, Reset, Pulse, OverdriveSlot, OverdriveReset}
 use Rattle.bus.specs.declared.Place.{Place}
 use Rattle.bus.specs.declared.SlotTurn.{SlotTurn}
 use Rattle.bus.specs.Bus.{Device, eventOf, takenState, hears, heardState, heardBody, unheardState, heardCopied, nextState, nextBody, copiedIn, isSlot, isOverdrive}
-use Rattle.bus.specs.Loops.{heardStateAsIs, heardBodyAsIs, heardCopiedAsIs, slotByte, kindIn, bodyIn}
+use Rattle.bus.specs.Loops.{heardStateAsIs, heardBodyAsIs, heardCopiedAsIs, slotByte, kindIn, bodyIn, endsIn, shiftsIn, passState}
 use Rattle.bus.specs.Loops.{nextStateAsIs, nextBodyAsIs, passedOver, placeIn, deviceAtPlace, deviceIn, imageWithBody, turnState, turnImage}
 use Rattle.bus.specs.Loops.{slotTurn, copiedAsIs, turnCopied, mostCopied, addedTo, copiedUpTo}
 use Rattle.bus.specs.Loops.{lineAt, BusState, busState, turnAt, turnsUpTo, turnStatesFrom, turnStatesOf}
 use Rattle.bus.proofs.Laws.{Inside, place-inside}
-use Rattle.bus.proofs.Ranges.{InRange}
+use Rattle.bus.proofs.Ranges.{InRange, as-it-is-state, as-it-is-body, as-it-is-copied}
 
 both : (a b : Bool) → (a && b) ≡ true → (a ≡ true) × (b ≡ true)
 both true b e = (refl, e)
 both false b e = absurd (true≢false (sym e))
-
--- a byte below 2 is a slot
-slot-is : (P : Event → Type 0) (byte : ℕ) → byte < 2 → ((sent : Bool) → P (Slot sent)) → P (eventOf byte)
-unfolding eventOf
-slot-is P zero h p = p false
-slot-is P (suc zero) h p = p true
-slot-is P (suc (suc byte)) h p = absurd (omega arith)
 
 -- a body put back where it was
 pub same-body : (image : List ℕ) (place : Place) → Inside place (length image)
@@ -51,32 +45,84 @@ same-body image place h =
     ∙ ap (λ (l : List ℕ). take (place .start) image ++ l) (take-append-drop n (drop (place .start) image))
     ∙ take-append-drop (place .start) image
 
--- ---- a device in range that waits
+never : (b : Bool) → (b && false) ≡ false
+never true = refl
+never false = refl
+
+-- ---- a device in range that is passed over
 
 module _ (byte : ℕ) (d : Device) (ranged : InRange d) (idle : passedOver byte (d .state) ≡ true) where
-  unfolded : (byte < 2) × (d .state ≡ waitingState)
+  told : (isSlot (eventOf byte) ≡ true) × ((hears (eventOf byte) (d .state) ≡ true) × (eqb (d .state .transfer .left) 0 ≡ true))
   unfolding passedOver
-  unfolded =
-      let two = both (ltb byte 2) (waits (d .state)) idle in
-      (ltb-true byte 2 (two .0), waits-waiting (d .state) (d .kind) (d .body) ranged (two .1))
+  told =
+      let p = both (isSlot (eventOf byte)) (hears (eventOf byte) (d .state) && eqb (d .state .transfer .left) 0) idle in
+      (p .0, both (hears (eventOf byte) (d .state)) (eqb (d .state .transfer .left) 0) (p .1))
+
+  stays-state : (event : Event) → isSlot event ≡ true → (level : Bool) → heardStateAsIs event level d ≡ d .state
+  unfolding isSlot heardStateAsIs
+  stays-state (Slot sent) e level = still-steps (d .state) (d .kind) (d .body) ranged (told .1 .1) level
+  stays-state Reset e level = absurd (true≢false (sym e))
+  stays-state Pulse e level = absurd (true≢false (sym e))
+  stays-state (OverdriveSlot sent) e level = still-steps (d .state) (d .kind) (d .body) ranged (told .1 .1) level
+  stays-state OverdriveReset e level = absurd (true≢false (sym e))
+
+  stays-body : (event : Event) → isSlot event ≡ true → (level : Bool) → heardBodyAsIs event level d ≡ d .body
+  unfolding isSlot heardBodyAsIs
+  stays-body (Slot sent) e level = still-writes (d .state) (d .kind) (d .body) ranged (told .1 .1) level
+  stays-body Reset e level = absurd (true≢false (sym e))
+  stays-body Pulse e level = absurd (true≢false (sym e))
+  stays-body (OverdriveSlot sent) e level = still-writes (d .state) (d .kind) (d .body) ranged (told .1 .1) level
+  stays-body OverdriveReset e level = absurd (true≢false (sym e))
+
+  copies-none : (event : Event) → isSlot event ≡ true → (level : Bool) → heardCopiedAsIs event level d ≡ 0
+  unfolding isSlot heardCopiedAsIs
+  copies-none (Slot sent) e level = still-copies (d .state) (d .kind) (d .body) ranged (told .1 .1) level
+  copies-none Reset e level = absurd (true≢false (sym e))
+  copies-none Pulse e level = absurd (true≢false (sym e))
+  copies-none (OverdriveSlot sent) e level = still-copies (d .state) (d .kind) (d .body) ranged (told .1 .1) level
+  copies-none OverdriveReset e level = absurd (true≢false (sym e))
+
+  as-heard-state : (level : Bool) → nextStateAsIs (eventOf byte) level d ≡ heardStateAsIs (eventOf byte) level d
+  unfolding nextStateAsIs
+  as-heard-state level = rw (told .1 .0)
+
+  as-heard-body : (level : Bool) → nextBodyAsIs (eventOf byte) level d ≡ heardBodyAsIs (eventOf byte) level d
+  unfolding nextBodyAsIs
+  as-heard-body level = rw (told .1 .0)
+
+  as-heard-copied : (level : Bool) → copiedAsIs (eventOf byte) level d ≡ heardCopiedAsIs (eventOf byte) level d
+  unfolding copiedAsIs
+  as-heard-copied level = rw (told .1 .0)
 
   pub idle-state : (level : Bool) → d .state ≡ nextState (eventOf byte) level d
-  unfolding nextState heardState takenState hears
   idle-state level =
-      slot-is (λ (v : Event). d .state ≡ nextState v level d) byte (unfolded .0)
-      (λ sent. rw (unfolded .1, waiting-or-waiting (d .kind) (d .body)) (sym (waiting-step (d .kind) (d .body) level)))
+      sym (as-heard-state level ∙ stays-state (eventOf byte) (told .0) level) ∙ as-it-is-state d ranged (eventOf byte) level
 
   pub idle-body : (level : Bool) → d .body ≡ nextBody (eventOf byte) level d
-  unfolding nextBody heardBody takenState hears
   idle-body level =
-      slot-is (λ (v : Event). d .body ≡ nextBody v level d) byte (unfolded .0)
-      (λ sent. rw (unfolded .1, waiting-or-waiting (d .kind) (d .body)) (sym (waiting-write (d .kind) (d .body) level)))
+      sym (as-heard-body level ∙ stays-body (eventOf byte) (told .0) level) ∙ as-it-is-body d ranged (eventOf byte) level
 
   pub idle-copied : (level : Bool) → 0 ≡ copiedIn (eventOf byte) level d
-  unfolding copiedIn heardCopied takenState hears
   idle-copied level =
-      slot-is (λ (v : Event). 0 ≡ copiedIn v level d) byte (unfolded .0)
-      (λ sent. rw (unfolded .1, waiting-or-waiting (d .kind) (d .body)) (sym (waiting-copies (d .kind) (d .body) level)))
+      sym (as-heard-copied level ∙ copies-none (eventOf byte) (told .0) level) ∙ as-it-is-copied d ranged (eventOf byte) level
+
+-- ---- who is not passed over
+
+deaf-not-passed : (byte : ℕ) (state : LineState) → hears (eventOf byte) state ≡ false → passedOver byte state ≡ false
+unfolding passedOver
+deaf-not-passed byte state deaf =
+    ap (λ (b : Bool). isSlot (eventOf byte) && (b && eqb (state .transfer .left) 0)) deaf ∙ never (isSlot (eventOf byte))
+
+other-not-passed : (byte : ℕ) (state : LineState) → isSlot (eventOf byte) ≡ false → passedOver byte state ≡ false
+unfolding passedOver
+other-not-passed byte state other =
+    ap (λ (b : Bool). b && (hears (eventOf byte) state && eqb (state .transfer .left) 0)) other
+
+busy-not-passed : (byte : ℕ) (state : LineState) → eqb (state .transfer .left) 0 ≡ false → passedOver byte state ≡ false
+unfolding passedOver
+busy-not-passed byte state busy =
+    ap (λ (b : Bool). isSlot (eventOf byte) && (hears (eventOf byte) state && b)) busy
+    ∙ ap (λ (b : Bool). isSlot (eventOf byte) && b) (never (hears (eventOf byte) state)) ∙ never (isSlot (eventOf byte))
 
 -- ---- an event that is not a regular slot
 
@@ -95,38 +141,34 @@ unheard-stays byte state h =
     choose false false false true = refl
     choose false false false false = refl
 
--- no device is passed over in it
-pub none-passed : (byte : ℕ) (state : LineState) → 2 ≤ byte → passedOver byte state ≡ false
-unfolding passedOver
-none-passed byte state h = rw (le-ltb byte 2 h)
-
 module _ (byte : ℕ) (h : 2 ≤ byte) (image : List ℕ) (i : ℕ) (state : LineState) (deaf : hears (eventOf byte) state ≡ false) (level : Bool) where
   unheard-state : turnState image i state byte level ≡ state
   unfolding turnState nextStateAsIs deviceIn deviceAtPlace
-  unheard-state = rw (none-passed byte state h, deaf) (unheard-stays byte state h)
+  unheard-state = rw (deaf-not-passed byte state deaf, deaf) (unheard-stays byte state h)
 
   unheard-image : turnImage image i state byte level ≡ image
   unfolding turnImage nextBodyAsIs deviceIn deviceAtPlace
-  unheard-image = rw (none-passed byte state h, deaf) (same-body image (placeIn image i) (place-inside image i))
+  unheard-image = rw (deaf-not-passed byte state deaf, deaf) (same-body image (placeIn image i) (place-inside image i))
 
   unheard-copied : turnCopied image i state byte level ≡ 0
   unfolding turnCopied copiedAsIs deviceIn deviceAtPlace
-  unheard-copied = rw (none-passed byte state h, deaf)
+  unheard-copied = rw (deaf-not-passed byte state deaf, deaf)
 
 -- one that hears it
-module _ (byte : ℕ) (h : 2 ≤ byte) (image : List ℕ) (i : ℕ) (state : LineState) (heard : hears (eventOf byte) state ≡ true) (level : Bool) where
+module _ (byte : ℕ) (other : isSlot (eventOf byte) ≡ false) (image : List ℕ) (i : ℕ) (state : LineState)
+    (heard : hears (eventOf byte) state ≡ true) (level : Bool) where
   pub heard-state : turnState image i state byte level ≡ heardStateAsIs (eventOf byte) level (deviceIn image i state)
   unfolding turnState nextStateAsIs deviceIn deviceAtPlace
-  heard-state = rw (none-passed byte state h, heard)
+  heard-state = rw (other-not-passed byte state other, heard)
 
   pub heard-image : turnImage image i state byte level
       ≡ imageWithBody image (placeIn image i) (heardBodyAsIs (eventOf byte) level (deviceIn image i state))
   unfolding turnImage nextBodyAsIs deviceIn deviceAtPlace
-  heard-image = rw (none-passed byte state h, heard)
+  heard-image = rw (other-not-passed byte state other, heard)
 
   pub heard-copied : turnCopied image i state byte level ≡ heardCopiedAsIs (eventOf byte) level (deviceIn image i state)
   unfolding turnCopied copiedAsIs deviceIn deviceAtPlace
-  heard-copied = rw (none-passed byte state h, heard)
+  heard-copied = rw (other-not-passed byte state other, heard)
 
   -- what is left by its event is its turn
   pub heard-turn : (event : Event) → eventOf byte ≡ event → (turn : SlotTurn) (left : List ℕ)
@@ -164,31 +206,20 @@ unfolding slotByte eventOf hears
 other-unheard state true e = other-speed (state .overdrive) true e
 other-unheard state false e = ap not (other-speed (state .overdrive) false e)
 
-never : (b : Bool) → (b && false) ≡ false
-never true = refl
-never false = refl
-
--- a device that does not hear it is not passed over
-unheard-not-passed : (state : LineState) (overdrive : Bool) → hears (eventOf (slotByte overdrive)) state ≡ false
-    → passedOver (slotByte overdrive) state ≡ false
-unfolding slotByte eventOf hears passedOver waits
-unheard-not-passed state true deaf = refl
-unheard-not-passed state false deaf = ap (λ (b : Bool). eqb (state .transfer .left) 0 && b) deaf ∙ never (eqb (state .transfer .left) 0)
-
 module _ (state : LineState) (overdrive : Bool) (deaf : hears (eventOf (slotByte overdrive)) state ≡ false) (image : List ℕ) (i : ℕ)
     (level : Bool) where
   pub unheard-slot-state : unheardState (eventOf (slotByte overdrive)) state ≡ turnState image i state (slotByte overdrive) level
   unfolding turnState nextStateAsIs deviceIn deviceAtPlace
-  unheard-slot-state = rw (unheard-not-passed state overdrive deaf, deaf)
+  unheard-slot-state = rw (deaf-not-passed (slotByte overdrive) state deaf, deaf)
 
   pub unheard-slot-image : image ≡ turnImage image i state (slotByte overdrive) level
   unfolding turnImage nextBodyAsIs deviceIn deviceAtPlace
   unheard-slot-image =
-      rw (unheard-not-passed state overdrive deaf, deaf) (sym (same-body image (placeIn image i) (place-inside image i)))
+      rw (deaf-not-passed (slotByte overdrive) state deaf, deaf) (sym (same-body image (placeIn image i) (place-inside image i)))
 
   pub unheard-slot-copied : 0 ≡ turnCopied image i state (slotByte overdrive) level
   unfolding turnCopied copiedAsIs deviceIn deviceAtPlace
-  unheard-slot-copied = rw (unheard-not-passed state overdrive deaf, deaf)
+  unheard-slot-copied = rw (deaf-not-passed (slotByte overdrive) state deaf, deaf)
 
 -- one that hears it takes the level in its transfer, at either speed
 taken-state : (overdrive level : Bool) (d : Device)
@@ -209,11 +240,11 @@ unfolding slotByte eventOf heardCopiedAsIs
 taken-copied true level d = refl
 taken-copied false level d = refl
 
-module _ (state : LineState) (overdrive : Bool) (heard : hears (eventOf (slotByte overdrive)) state ≡ true) (awake : waits state ≡ false)
+module _ (state : LineState) (overdrive : Bool) (heard : hears (eventOf (slotByte overdrive)) state ≡ true)
+    (busy : eqb (state .transfer .left) 0 ≡ false)
     (image : List ℕ) (i : ℕ) (level : Bool) where
   not-passed : passedOver (slotByte overdrive) state ≡ false
-  unfolding passedOver
-  not-passed = ap (λ (b : Bool). ltb (slotByte overdrive) 2 && b) awake ∙ never (ltb (slotByte overdrive) 2)
+  not-passed = busy-not-passed (slotByte overdrive) state busy
 
   pub heard-slot-state : turnState image i state (slotByte overdrive) level
       ≡ stateAfterSlotAsIs state (kindIn image i) (bodyIn image i) level
@@ -230,14 +261,41 @@ module _ (state : LineState) (overdrive : Bool) (heard : hears (eventOf (slotByt
   unfolding turnCopied copiedAsIs deviceIn deviceAtPlace kindIn bodyIn
   heard-slot-copied = rw (not-passed, heard) (taken-copied overdrive level (deviceIn image i state))
 
+-- in the last slot of its transfer
+module _ (state : LineState) (overdrive : Bool) (heard : hears (eventOf (slotByte overdrive)) state ≡ true)
+    (last : lastSlot (state .transfer) ≡ true) (image : List ℕ) (i : ℕ) (level : Bool) where
+  some-left : eqb (state .transfer .left) 0 ≡ false
+  some-left = ap (λ (n : ℕ). eqb n 0) (eqb-true (state .transfer .left) 1 last)
+
+  none-follow : goesOn (state .transfer) ≡ false
+  none-follow = ap (λ (n : ℕ). ltb 1 n) (eqb-true (state .transfer .left) 1 last)
+
+  pub last-state : turnState image i state (slotByte overdrive) level
+      ≡ lineState (stageNext (state .transfer .stage) (kindIn image i) (state .overdrive) (received (state .transfer) level) (bodyIn image i) level)
+      (stageSpeed (state .transfer .stage) (kindIn image i) (state .overdrive) (received (state .transfer) level) (bodyIn image i) level)
+  last-state = heard-slot-state state overdrive heard some-left image i level ∙ ending-steps state (kindIn image i) (bodyIn image i) level none-follow
+
+  pub last-image : turnImage image i state (slotByte overdrive) level
+      ≡ imageWithBody image (placeIn image i)
+      (stageWrite (state .transfer .stage) (kindIn image i) (received (state .transfer) level) (bodyIn image i) level)
+  last-image =
+      heard-slot-image state overdrive heard some-left image i level
+      ∙ ap (imageWithBody image (placeIn image i)) (ending-writes state (kindIn image i) (bodyIn image i) level none-follow)
+
+  pub last-copied : turnCopied image i state (slotByte overdrive) level ≡ bytesInSlotAsIs state (kindIn image i) (bodyIn image i) level
+  last-copied = heard-slot-copied state overdrive heard some-left image i level
+
+  pub last-copy : copyInSlotAsIs state (kindIn image i) (bodyIn image i) level
+      ≡ stageCopy (state .transfer .stage) (kindIn image i) (received (state .transfer) level) (bodyIn image i)
+  last-copy = ending-copies state (kindIn image i) (bodyIn image i) level none-follow
+
 -- inside a transfer
 module _ (state : LineState) (overdrive : Bool) (heard : hears (eventOf (slotByte overdrive)) state ≡ true)
     (inside : goesOn (state .transfer) ≡ true) (image : List ℕ) (i : ℕ) (level : Bool) where
-  going : waits state ≡ false
-  unfolding waits
+  going : eqb (state .transfer .left) 0 ≡ false
   going =
       let more : 1 < state .transfer .left = ltb-true 1 (state .transfer .left) inside in
-      ap (λ (b : Bool). b && not (state .overdrive)) (ne-eqb (state .transfer .left) 0 (λ none. absurd (omega (arith, more, none))))
+      ne-eqb (state .transfer .left) 0 (λ none. absurd (omega (arith, more, none)))
 
   pub inside-state : lineState (shifted (state .transfer) level) (state .overdrive) ≡ turnState image i state (slotByte overdrive) level
   inside-state = sym (heard-slot-state state overdrive heard going image i level ∙ going-on-steps state _ _ level inside)
@@ -252,35 +310,97 @@ module _ (state : LineState) (overdrive : Bool) (heard : hears (eventOf (slotByt
   pub inside-copied : 0 ≡ turnCopied image i state (slotByte overdrive) level
   inside-copied = sym (heard-slot-copied state overdrive heard going image i level ∙ going-on-copies state _ _ level inside)
 
--- a device that waits at regular speed is passed over in a regular slot, and does not hear an overdrive slot
-module _ (image : List ℕ) (i : ℕ) (state : LineState) (idle : waits state ≡ true) (level : Bool) where
-  at-regular : state .overdrive ≡ false
-  unfolding waits
-  at-regular = not-true (state .overdrive) (both (eqb (state .transfer .left) 0) (not (state .overdrive)) idle .1)
+-- with no transfer under way
+module _ (state : LineState) (overdrive : Bool) (heard : hears (eventOf (slotByte overdrive)) state ≡ true)
+    (none : eqb (state .transfer .left) 0 ≡ true) (image : List ℕ) (i : ℕ) (level : Bool) where
+  is-passed : (f : Bool) → hears (eventOf (slotByte f)) state ≡ true → passedOver (slotByte f) state ≡ true
+  unfolding slotByte eventOf isSlot passedOver hears
+  is-passed true h = ap (λ (b : Bool). b && eqb (state .transfer .left) 0) h ∙ none
+  is-passed false h = ap (λ (b : Bool). b && eqb (state .transfer .left) 0) h ∙ none
 
-  overdrive-unheard : hears (eventOf 5) state ≡ false
-  unfolding eventOf hears
-  overdrive-unheard = at-regular
+  passed-state : turnState image i state (slotByte overdrive) level ≡ state
+  unfolding turnState
+  passed-state = rw (is-passed overdrive heard)
 
-  pub idle-slot-state : (overdrive : Bool) → turnState image i state (slotByte overdrive) level ≡ state
-  unfolding slotByte turnState passedOver
-  idle-slot-state true = unheard-state 5 (omega arith) image i state overdrive-unheard level
-  idle-slot-state false = rw idle
+  passed-image : turnImage image i state (slotByte overdrive) level ≡ image
+  unfolding turnImage
+  passed-image = rw (is-passed overdrive heard)
 
-  pub idle-slot-image : (overdrive : Bool) → turnImage image i state (slotByte overdrive) level ≡ image
-  unfolding slotByte turnImage passedOver
-  idle-slot-image true = unheard-image 5 (omega arith) image i state overdrive-unheard level
-  idle-slot-image false = rw idle
+  passed-copied : turnCopied image i state (slotByte overdrive) level ≡ 0
+  unfolding turnCopied
+  passed-copied = rw (is-passed overdrive heard)
 
-  pub idle-slot-copied : (overdrive : Bool) → turnCopied image i state (slotByte overdrive) level ≡ 0
-  unfolding slotByte turnCopied passedOver
-  idle-slot-copied true = unheard-copied 5 (omega arith) image i state overdrive-unheard level
-  idle-slot-copied false = rw idle
+-- ---- a slot in which no more happens than a shift
+
+-- a device hears it or not, and its transfer goes on, ends, or is none
+data Passes (overdrive : Bool) (state : LineState) : Type 0 where
+  is-deaf : hears (eventOf (slotByte overdrive)) state ≡ false → unheardState (eventOf (slotByte overdrive)) state ≡ state
+      → ((level : Bool) → passState overdrive level state ≡ state) → Passes overdrive state
+  is-inside : hears (eventOf (slotByte overdrive)) state ≡ true → goesOn (state .transfer) ≡ true
+      → ((level : Bool) → passState overdrive level state ≡ lineState (shifted (state .transfer) level) (state .overdrive))
+      → Passes overdrive state
+  is-none : hears (eventOf (slotByte overdrive)) state ≡ true → eqb (state .transfer .left) 0 ≡ true
+      → ((level : Bool) → passState overdrive level state ≡ state) → Passes overdrive state
+
+nothing-left : (left : ℕ) → ltb 1 left ≡ false → eqb left 1 ≡ false → eqb left 0 ≡ true
+nothing-left zero e f = refl
+nothing-left (suc zero) e f = absurd (true≢false f)
+nothing-left (suc (suc left)) e f = absurd (true≢false (sym (lt-ltb 1 (suc (suc left)) (omega arith)) ∙ e))
+
+passes : (overdrive speed : Bool) (state : LineState) → state .overdrive ≡ speed → endsIn overdrive state ≡ false → Passes overdrive state
+unfolding endsIn shiftsIn passState slotByte eventOf hears unheardState
+passes true true state s e = choose (goesOn (state .transfer)) refl
+  where
+    choose : (b : Bool) → goesOn (state .transfer) ≡ b → Passes true state
+    choose true g = is-inside s g (λ level. rw (s, g))
+    choose false g = is-none s (nothing-left (state .transfer .left) g (sym (ap (λ (b : Bool). b && lastSlot (state .transfer)) s) ∙ e))
+        (λ level. rw (s, g))
+passes true false state s e = is-deaf s refl (λ level. rw s)
+passes false true state s e = absurd (true≢false (sym (ap (λ (b : Bool). b || lastSlot (state .transfer)) s) ∙ e))
+passes false false state s e = choose (goesOn (state .transfer)) refl
+  where
+    choose : (b : Bool) → goesOn (state .transfer) ≡ b → Passes false state
+    choose true g = is-inside (ap not s) g (λ level. rw (s, g))
+    choose false g = is-none (ap not s) (nothing-left (state .transfer .left) g (sym (ap (λ (b : Bool). b || lastSlot (state .transfer)) s) ∙ e))
+        (λ level. rw (s, g))
+
+module _ (overdrive level : Bool) (image : List ℕ) (i : ℕ) (state : LineState) where
+  by-pass-state : Passes overdrive state → turnState image i state (slotByte overdrive) level ≡ passState overdrive level state
+  by-pass-state (is-deaf d u p) = sym (unheard-slot-state state overdrive d image i level) ∙ u ∙ sym (p level)
+  by-pass-state (is-inside h g p) = sym (inside-state state overdrive h g image i level) ∙ sym (p level)
+  by-pass-state (is-none h z p) = passed-state state overdrive h z image i level ∙ sym (p level)
+
+  by-pass-image : Passes overdrive state → turnImage image i state (slotByte overdrive) level ≡ image
+  by-pass-image (is-deaf d u p) = sym (unheard-slot-image state overdrive d image i level)
+  by-pass-image (is-inside h g p) = sym (inside-image state overdrive h g image i level)
+  by-pass-image (is-none h z p) = passed-image state overdrive h z image i level
+
+  by-pass-copied : Passes overdrive state → turnCopied image i state (slotByte overdrive) level ≡ 0
+  by-pass-copied (is-deaf d u p) = sym (unheard-slot-copied state overdrive d image i level)
+  by-pass-copied (is-inside h g p) = sym (inside-copied state overdrive h g image i level)
+  by-pass-copied (is-none h z p) = passed-copied state overdrive h z image i level
+
+  pub pass-state : endsIn overdrive state ≡ false → turnState image i state (slotByte overdrive) level ≡ passState overdrive level state
+  pass-state e = by-pass-state (passes overdrive (state .overdrive) state refl e)
+
+  pub pass-image : endsIn overdrive state ≡ false → turnImage image i state (slotByte overdrive) level ≡ image
+  pass-image e = by-pass-image (passes overdrive (state .overdrive) state refl e)
+
+  pub pass-copied : endsIn overdrive state ≡ false → turnCopied image i state (slotByte overdrive) level ≡ 0
+  pass-copied e = by-pass-copied (passes overdrive (state .overdrive) state refl e)
+
+-- one that hears it where more happens is in the last slot of its transfer
+pub ends-last : (overdrive : Bool) (state : LineState) → endsIn overdrive state ≡ true → hears (eventOf (slotByte overdrive)) state ≡ true
+    → lastSlot (state .transfer) ≡ true
+unfolding endsIn slotByte eventOf hears
+ends-last true state e h = both (state .overdrive) (lastSlot (state .transfer)) e .1
+ends-last false state e h =
+    ap (λ (b : Bool). b || lastSlot (state .transfer)) (sym (not-true (state .overdrive) h)) ∙ e
 
 -- ---- what has no part in a device's turn
 
 -- a byte over 6 counts as the pulse
-over-six : (byte : ℕ) → 6 < byte → eventOf byte ≡ Pulse
+pub over-six : (byte : ℕ) → 6 < byte → eventOf byte ≡ Pulse
 unfolding eventOf
 over-six byte h =
     rw (
@@ -339,18 +459,18 @@ slotOf byte = slotByte (isOverdrive (eventOf byte))
 module _ (image : List ℕ) (i : ℕ) (state : LineState) (level : Bool) where
   -- what the master sends in a slot
   pub slot-state : (byte : ℕ) → isSlot (eventOf byte) ≡ true → turnState image i state (slotOf byte) level ≡ turnState image i state byte level
-  unfolding slotByte isOverdrive turnState passedOver eventOf nextStateAsIs heardStateAsIs unheardState hears
+  unfolding slotByte isSlot isOverdrive turnState passedOver eventOf nextStateAsIs heardStateAsIs unheardState hears
   slot-state byte e =
       slot-bytes (λ (v : ℕ). turnState image i state (slotOf v) level ≡ turnState image i state v level) byte e refl refl refl refl
 
   pub slot-image : (byte : ℕ) → isSlot (eventOf byte) ≡ true → turnImage image i state (slotOf byte) level ≡ turnImage image i state byte level
-  unfolding slotByte isOverdrive turnImage passedOver eventOf nextBodyAsIs heardBodyAsIs hears
+  unfolding slotByte isSlot isOverdrive turnImage passedOver eventOf nextBodyAsIs heardBodyAsIs hears
   slot-image byte e =
       slot-bytes (λ (v : ℕ). turnImage image i state (slotOf v) level ≡ turnImage image i state v level) byte e refl refl refl refl
 
   pub slot-copied : (byte : ℕ) → isSlot (eventOf byte) ≡ true
       → turnCopied image i state (slotOf byte) level ≡ turnCopied image i state byte level
-  unfolding slotByte isOverdrive turnCopied passedOver eventOf copiedAsIs heardCopiedAsIs hears
+  unfolding slotByte isSlot isOverdrive turnCopied passedOver eventOf copiedAsIs heardCopiedAsIs hears
   slot-copied byte e =
       slot-bytes (λ (v : ℕ). turnCopied image i state (slotOf v) level ≡ turnCopied image i state v level) byte e refl refl refl refl
 
@@ -415,25 +535,12 @@ other-pulse (suc (suc (suc (suc (suc zero))))) e h k = absurd (true≢false e)
 other-pulse (suc (suc (suc (suc (suc (suc zero)))))) e h k = absurd (k refl)
 other-pulse (suc (suc (suc (suc (suc (suc (suc byte))))))) e h k = over-six (suc (suc (suc (suc (suc (suc (suc byte))))))) (omega arith)
 
--- ---- a device that waits is not stored again
+-- ---- a device that stays as it is is not stored again
 
-set-same : (lines : List LineState) (i : ℕ) → set lines i (lineAt lines i) ≡ lines
+pub set-same : (lines : List LineState) (i : ℕ) → set lines i (lineAt lines i) ≡ lines
 set-same [] i = refl
 set-same (state ∷ lines) zero = refl
 set-same (state ∷ lines) (suc i) = ap (λ (l : List LineState). state ∷ l) (set-same lines i)
-
-pub idle-line : (image : List ℕ) (i : ℕ) (overdrive level : Bool) (lines : List LineState) → waits (lineAt lines i) ≡ true
-    → set lines i (turnState image i (lineAt lines i) (slotByte overdrive) level) ≡ lines
-idle-line image i overdrive level lines idle =
-    ap (λ (s : LineState). set lines i s) (idle-slot-state image i (lineAt lines i) idle level overdrive) ∙ set-same lines i
-
-pub idle-turn : (overdrive level : Bool) (i : ℕ) (s : BusState) → waits (lineAt (s .lines) i) ≡ true
-    → turnAt (slotByte overdrive) level i s ≡ s
-unfolding turnAt
-idle-turn overdrive level i s idle = λ j.
-    busState
-    (idle-slot-image (s .image) i (lineAt (s .lines) i) idle level overdrive j)
-    (idle-line (s .image) i overdrive level (s .lines) idle j)
 
 pub added-none : (sum : ℕ) → addedTo sum 0 ≡ sum
 unfolding addedTo
@@ -483,12 +590,6 @@ module _ (v w : ℕ) (l k : Bool)
       all-copied-same (suc i) s = λ j.
           let before = turns-same i s j in
           addedTo (all-copied-same i s j) (copied-same (before .image) i (lineAt (before .lines) i) j)
-
--- a device that waits copies none
-pub idle-copied-more : (overdrive level : Bool) (i sum : ℕ) (s : BusState) → waits (lineAt (s .lines) i) ≡ true
-    → addedTo sum (turnCopied (s .image) i (lineAt (s .lines) i) (slotByte overdrive) level) ≡ sum
-idle-copied-more overdrive level i sum s idle =
-    ap (addedTo sum) (idle-slot-copied (s .image) i (lineAt (s .lines) i) idle level overdrive) ∙ added-none sum
 
 -- what the master sends in a slot has no part in it
 module _ (byte : ℕ) (level : Bool) (slot : isSlot (eventOf byte) ≡ true) where

@@ -1,5 +1,5 @@
 -- Laws that the proofs of this crate cite. Assumes nothing.
-use Prim.Native.Nat.{ℕ, zero, suc, _+_, _-_, _^_, _<_, _≤_}
+use Prim.Native.Nat.{ℕ, zero, suc, _+_, _-_, _*_, _^_, _<_, _≤_}
 use mathlib.Core.Path.{_≡_, refl, sym, ap, subst, _∙_}
 use mathlib.Core.Bool.{Bool, true, false, not, cond, _&&_, _||_, or-assoc, or-false, true≢false}
 use mathlib.Core.List.{List, [], _∷_, _++_}
@@ -30,15 +30,18 @@ pub record Inside (place : Place) (n : ℕ) : Type 0 where
   pub rising : place .start ≤ place .end
   pub within : place .end ≤ n
 
-place-inside-at : (image : List ℕ) (i : ℕ) (a b : Bool) → leb (offsetAt image i + bodySize (kindAt image i)) (length image) ≡ b
-    → Inside (cond (a && b) (record { kind = kindAt image i; start = offsetAt image i; end = offsetAt image i + bodySize (kindAt image i) }) (record { kind = Unknown; start = 0; end = 0 })) (length image)
-place-inside-at image i true true e = record { rising = omega arith; within = leb-true _ _ e }
-place-inside-at image i true false e = record { rising = omega arith; within = omega arith }
-place-inside-at image i false b e = record { rising = omega arith; within = omega arith }
+place-inside-at : (image : List ℕ) (i : ℕ) (a w b : Bool) → leb (offsetAt image i + bodySize (kindAt image i)) (length image) ≡ b
+    → Inside (cond (a && (w && b)) (record { kind = kindAt image i; start = offsetAt image i; end = offsetAt image i + bodySize (kindAt image i) }) (record { kind = Unknown; start = 0; end = 0 })) (length image)
+place-inside-at image i true true true e = record { rising = omega arith; within = leb-true _ _ e }
+place-inside-at image i true true false e = record { rising = omega arith; within = omega arith }
+place-inside-at image i true false b e = record { rising = omega arith; within = omega arith }
+place-inside-at image i false w b e = record { rising = omega arith; within = omega arith }
 
 pub place-inside : (image : List ℕ) (i : ℕ) → Inside (placeIn image i) (length image)
 unfolding placeIn
-place-inside image i = place-inside-at image i (ltb i (countOf image)) (leb (offsetAt image i + bodySize (kindAt image i)) (length image)) refl
+place-inside image i =
+    place-inside-at image i (ltb i (countOf image)) (ltb (5 + 4 * i) (length image))
+    (leb (offsetAt image i + bodySize (kindAt image i)) (length image)) refl
 
 pub inside-of : (image : List ℕ) (i : ℕ) (place : Place) → place ≡ placeIn image i → Inside place (length image)
 inside-of image i place e = subst (λ (p : Place). Inside p (length image)) (sym e) (place-inside image i)

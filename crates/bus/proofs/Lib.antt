@@ -8,4 +8,6 @@ pub mod Ranges
 pub mod Runs
 pub mod Shapes
 pub mod Shown
+pub mod Shifts
 pub mod States
+pub mod Tests

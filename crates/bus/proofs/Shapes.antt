@@ -57,8 +57,9 @@ event-result-shape = record { lifetimes = 0; outlives = []; kinds = dataK scan �
 abbrev pub run-result-shape : Shape
 run-result-shape = record { lifetimes = 0; outlives = []; kinds = dataK (num w32) ∷ dataK (num w64) ∷ []; gives = ran }
 
-abbrev pub waits-shape : Shape
-waits-shape = record { lifetimes = 0; outlives = []; kinds = dataK line ∷ []; gives = truth }
+-- of a question about a line state in a slot at a speed
+abbrev pub in-slot-shape : Shape
+in-slot-shape = record { lifetimes = 0; outlives = []; kinds = dataK line ∷ dataK truth ∷ []; gives = truth }
 
 abbrev pub device-count-shape : Shape
 device-count-shape = record {
@@ -123,6 +124,18 @@ level-shape = record {
   outlives = [];
   kinds = shrK 0 tt R ∷ dataK (num w64) ∷ dataK (num w8) ∷ [];
   gives = scan;
+}
+
+-- of what gives a line state back after a level
+abbrev pub shifted-shape : Shape
+shifted-shape = record { lifetimes = 0; outlives = []; kinds = dataK line ∷ dataK truth ∷ []; gives = line }
+
+abbrev pub shift-all-shape : Shape
+shift-all-shape = record {
+  lifetimes = 1;
+  outlives = [];
+  kinds = mutK 0 tt R ∷ dataK (num w64) ∷ dataK (num w64) ∷ dataK truth ∷ dataK truth ∷ [];
+  gives = num w64;
 }
 
 abbrev pub slot-all-shape : Shape

@@ -88,10 +88,12 @@ bodies-append (x ∷ xs) ys = ap (λ (l : List ℕ). x .body ++ l) (bodies-appen
 abbrev pub placed : Kind → ℕ → ℕ → Place
 placed kind start size = record { kind = kind; start = start; end = start + size }
 
-pub place-known : (image : List ℕ) (i : ℕ) → i < countOf image → offsetAt image i + bodySize (kindAt image i) ≤ length image
+pub place-known : (image : List ℕ) (i : ℕ) → i < countOf image → 2 + 4 * countOf image ≤ length image
+    → offsetAt image i + bodySize (kindAt image i) ≤ length image
     → placeIn image i ≡ placed (kindAt image i) (offsetAt image i) (bodySize (kindAt image i))
 unfolding placeIn
-place-known image i h fits = rw (lt-ltb i (countOf image) h, le-leb (offsetAt image i + bodySize (kindAt image i)) (length image) fits)
+place-known image i h whole fits =
+    rw (lt-ltb i (countOf image) h, lt-ltb (5 + 4 * i) (length image) (omega (arith, h, whole)), le-leb (offsetAt image i + bodySize (kindAt image i)) (length image) fits)
 
 -- a sum that stays below the largest number
 added-fits : (sum bytes : ℕ) → sum + bytes ≤ mostCopied → addedTo sum bytes ≡ sum + bytes
@@ -170,7 +172,8 @@ module _ (image : List ℕ) (known : Known image) where
 
     pub place-is : placeIn P (length xs) ≡ placed (d .kind) (length before) (length (d .body))
     place-is =
-        place-known P (length xs) (subst (λ (m : ℕ). length xs < m) (sym (count-kept (xs ++ d ∷ ys))) within) fits
+        place-known P (length xs) (subst (λ (m : ℕ). length xs < m) (sym (count-kept (xs ++ d ∷ ys))) within)
+        (omega (arith, count-kept (xs ++ d ∷ ys), contents-length, length-append (tableOfContents image) (bodiesOf (xs ++ d ∷ ys)))) fits
         ∙ ap (λ (k : Kind). placed k (offsetAt P (length xs)) (bodySize (kindAt P (length xs)))) kind-is
         ∙ ap (λ (s : ℕ). placed (d .kind) s (bodySize (kindAt P (length xs)))) start-is
         ∙ ap (λ (s : ℕ). placed (d .kind) (length before) s) size-is

@@ -1,8 +1,8 @@
 -- Nothing here is from document 01. These definitions say what the functions of `src/` below `run` do, for any image
 -- and any line states, with each loop's state by recursion on how many turns it has made. Where the image is not
 -- refused and there is room, this is what `Bus.antt` and `Run.antt` say (`proofs/Shown.antt`).
-use Prim.Native.Nat.{ℕ, zero, suc, _+_, _-_}
-use mathlib.Core.Bool.{Bool, true, false, not, cond, _&&_, _||_}
+use Prim.Native.Nat.{ℕ, zero, suc, _+_, _-_, _*_}
+use mathlib.Core.Bool.{Bool, true, false, not, cond, _&&_, _||_, Bool·beq}
 use mathlib.Core.List.{List, [], _∷_, _++_, map}
 use lib.ListN.{length, getD, set, take, drop}
 use lib.Dec.{eqb, ltb, leb}
@@ -12,7 +12,8 @@ use Rattle.kind.specs.declared.Kind.the-variants.{Unknown}
 use Rattle.kind.specs.Kind.{bodySize}
 use Rattle.image.specs.Image.{countOf, kindAt, offsetAt}
 use Rattle.device.specs.declared.LineState.{LineState}
-use Rattle.device.specs.Device.{waitingState, resetAt, resetState, waits, sendsAsIs, stateAfterSlotAsIs}
+use Rattle.line.specs.Transfers.{goesOn, lastSlot, shifted}
+use Rattle.device.specs.Device.{lineState, waitingState, resetAt, resetState, sendsAsIs, stateAfterSlotAsIs}
 use Rattle.device.specs.Device.{bodyAfterSlotAsIs}
 use Rattle.device.specs.Device.{bodyAfterResetAsIs, stateAfterPulseAsIs, bodyAfterPulseAsIs, bytesInSlotAsIs}
 use Rattle.bus.specs.declared.Event.{Event}
@@ -21,7 +22,7 @@ use Rattle.bus.specs.declared.Place.{Place}
 use Rattle.bus.specs.declared.Scan.{Scan}
 use Rattle.bus.specs.declared.SlotTurn.{SlotTurn}
 use Rattle.bus.specs.declared.EventResult.{EventResult}
-use Rattle.bus.specs.Bus.{Device, deviceWith, eventOf, hears, masterHigh, readSlot, unheardState}
+use Rattle.bus.specs.Bus.{Device, deviceWith, eventOf, isSlot, hears, masterHigh, readSlot, unheardState}
 
 -- ---- one device, without a test of its line state's range
 
@@ -62,15 +63,32 @@ copiedAsIs event level d = cond (hears event (d .state)) (heardCopiedAsIs event 
 unfoldable pub slotByte : Bool → ℕ
 slotByte overdrive = cond overdrive 5 1
 
--- A device that waits at regular speed is passed over in a regular slot.
+-- A device that has no transfer under way is passed over in a slot that it hears.
 unfoldable pub passedOver : ℕ → LineState → Bool
-passedOver byte state = ltb byte 2 && waits state
+passedOver byte state =
+    isSlot (eventOf byte) && (hears (eventOf byte) state && eqb (state .transfer .left) 0)
+
+-- In a slot more happens than a shift to a device whose transfer ends in it, and to one that a regular slot finds at
+-- overdrive.
+unfoldable pub endsIn : Bool → LineState → Bool
+endsIn true state = state .overdrive && lastSlot (state .transfer)
+endsIn false state = state .overdrive || lastSlot (state .transfer)
+
+-- A slot shifts the register of a device at its speed that is inside a transfer.
+unfoldable pub shiftsIn : Bool → LineState → Bool
+shiftsIn overdrive state = Bool·beq (state .overdrive) overdrive && goesOn (state .transfer)
+
+-- A slot leaves a device to which no more happens in this line state: any that is not shifted stays as it is.
+unfoldable pub passState : Bool → Bool → LineState → LineState
+passState overdrive level state =
+    cond (shiftsIn overdrive state) (lineState (shifted (state .transfer) level) (state .overdrive)) state
 
 -- The place of device i is its kind and where its body lies in the image. A device that the image does not have, or has
--- no room for, has an empty body and no kind.
+-- no whole entry or no room for, has an empty body and no kind.
 unfoldable pub placeIn : List ℕ → ℕ → Place
 placeIn image i =
-    cond (ltb i (countOf image) && leb (offsetAt image i + bodySize (kindAt image i)) (length image))
+    cond (ltb i (countOf image)
+    && (ltb (5 + 4 * i) (length image) && leb (offsetAt image i + bodySize (kindAt image i)) (length image)))
     (record { kind = kindAt image i; start = offsetAt image i; end = offsetAt image i + bodySize (kindAt image i) })
     (record { kind = Unknown; start = 0; end = 0 })
 
@@ -177,6 +195,19 @@ scanWhere event high looked = record { level = masterHigh event && high; looked 
 -- A line state that a slice does not have is waiting.
 abbrev pub lineAt : List LineState → ℕ → LineState
 lineAt lines i = getD lines i waitingState
+
+-- Of m devices from place i on, so many come before the first to which more happens in a slot than a shift.
+unfoldable pub passesFrom : Bool → ℕ → ℕ → List LineState → ℕ
+passesFrom overdrive zero i lines = 0
+passesFrom overdrive (suc m) i lines =
+    cond (endsIn overdrive (lineAt lines i)) 0 (suc (passesFrom overdrive m (suc i) lines))
+
+-- The slot leaves the first k of them in these line states.
+unfoldable pub shiftedFrom : Bool → Bool → ℕ → ℕ → List LineState → List LineState
+shiftedFrom overdrive level i zero lines = lines
+shiftedFrom overdrive level i (suc k) lines =
+    let before = shiftedFrom overdrive level i k lines in
+    set before (i + k) (passState overdrive level (lineAt before (i + k)))
 
 -- Image and line states change together: `turnAt` is the turn of device i, `turnsUpTo` the turns of the first i
 -- devices.

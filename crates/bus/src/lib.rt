@@ -7,19 +7,19 @@ use device::LineState;
 use image::ACCEPTED;
 use kind::Kind;
 ghost use mathlib.Core.Path.{_≡_};
-ghost use Prim.Native.Nat.{_≤_};
-ghost use mathlib.Core.Bool.{true, false, not, cond, _||_};
+ghost use Prim.Native.Nat.{_≤_, _+_, _-_};
+ghost use mathlib.Core.Bool.{true, false, not, _||_};
 ghost use lib.ListN.{length};
 ghost use lib.Dec.{eqb, ltb};
 ghost use Rattle.image.specs.Image.{countOf, kindAt};
 ghost use Rattle.image.specs.Refusal.{someBelow};
 ghost use Rattle.kind.specs.Kind.{isEprom};
-ghost use Rattle.bus.specs.Bus.{eventOf, hears, unheardState, isSlot, isOverdrive};
+ghost use Rattle.bus.specs.Bus.{eventOf, hears, masterHigh, unheardState, isSlot, isOverdrive};
 ghost use Rattle.bus.specs.Refusal.{someByte, badTrace, noFirstReset, badPulse, noRunRoom};
 ghost use Rattle.bus.specs.Refusal.{runRefusal};
 ghost use Rattle.bus.specs.Run.{RunLeaves, runOf, runResult};
 ghost use Rattle.bus.specs.Loops.{placeIn, askedOf, goesOnAt, scanWhere, turnState, turnImage, leavesHigh};
-ghost use Rattle.bus.specs.Loops.{slotByte, imageWithBody, bodyIn};
+ghost use Rattle.bus.specs.Loops.{slotByte, imageWithBody, bodyIn, endsIn, shiftsIn, passesFrom, shiftedFrom};
 ghost use Rattle.bus.specs.Loops.{turnCopied, slotTurn, addedTo, copiedUpTo, copiedOn, eventResult};
 ghost use Rattle.bus.specs.Loops.{copiedByEvents};
 ghost use Rattle.bus.specs.Loops.{fewerOf, scanOn, stepOn};
@@ -127,27 +127,33 @@ fn is_overdrive(byte: u8) -> bool
 fn leaves_high(byte: u8, state: LineState) -> bool
     ensures { λ r. ⌜ r ≡ leavesHigh (eventOf byte) state ⌝ }
 {
-    match event_of(byte) {
-        Event::Slot(_) => state.overdrive | state.sends_as_is(),
-        Event::Reset => false,
-        Event::Pulse => true,
-        Event::OverdriveSlot(_) => !state.overdrive | state.sends_as_is(),
-        Event::OverdriveReset => !state.overdrive,
+    if is_slot(byte) {
+        if is_overdrive(byte) {
+            return !state.overdrive | state.sends_as_is();
+        }
+        return state.overdrive | state.sends_as_is();
+    }
+    match byte {
+        2 => false,
+        6 => !state.overdrive,
+        _ => true,
     }
 }
 
 // The place of device i is found from its entry alone, so that the cost does not depend on i. A device that the image
-// does not have, or has no room for, has an empty body and no kind.
+// does not have, or for whose entry or body it has no room, has an empty body and no kind.
 pub fn place_of(image: &[u8], i: usize) -> Place
     ensures { λ r. ⌜ r ≡ placeIn (now (image .entry)) i ⌝ }
 {
     if i < bits::wide(image::count(image)) {
-        let entry = image::entry_at(image, i as u8);
-        let kind = entry.kind;
-        let start = entry.start;
-        let end = start + kind::body_size(kind);
-        if end <= image.len() {
-            return Place { kind, start, end };
+        if 5 + 4 * i < image.len() {
+            let entry = image::entry_at(image, i as u8);
+            let kind = entry.kind;
+            let start = entry.start;
+            let end = start + kind::body_size(kind);
+            if end <= image.len() {
+                return Place { kind, start, end };
+            }
         }
     }
     Place {
@@ -157,25 +163,19 @@ pub fn place_of(image: &[u8], i: usize) -> Place
     }
 }
 
-// This is a number in a slot in which the master sends 1, and 0 in one in which it sends 0.
-fn where_sent(sent: bool, n: usize) -> usize
-    ensures { λ r. ⌜ r ≡ cond sent n 0 ⌝ }
+// The master holds the line low in a slot in which it sends 0, an event 0 or 4.
+fn holds_low(byte: u8) -> bool
+    ensures { λ r. ⌜ r ≡ not (masterHigh (eventOf byte)) ⌝ }
 {
-    if sent { n } else { 0 }
+    (byte == 0) | (byte == 4)
 }
 
-// All of n devices are asked for the level of an event but of a slot in which the master sends 0: its level does not
-// depend on what they send.
+// All of n devices are asked for the level of an event, and none where the master holds the line low: the level then
+// does not depend on what they send.
 fn asked(byte: u8, n: usize) -> usize
     ensures { λ r. ⌜ r ≡ askedOf (eventOf byte) n ⌝ }
 {
-    match event_of(byte) {
-        Event::Slot(sent) => where_sent(sent, n),
-        Event::Reset => n,
-        Event::Pulse => n,
-        Event::OverdriveSlot(sent) => where_sent(sent, n),
-        Event::OverdriveReset => n,
-    }
+    if holds_low(byte) { 0 } else { n }
 }
 
 // The scan of an event goes on until a device pulls low or the last has been asked.
@@ -186,31 +186,20 @@ fn looks_on(high: bool, looked: usize, asked: usize) -> bool
 }
 
 // A scan is the level of an event, where `high` tells whether those that were asked leave the line high, together with
-// the number of devices that were looked at for it. Only those of a slot are counted.
+// the number of devices that were looked at for it. They are counted only in a slot in which the master does not hold
+// the line low.
 fn scan_of(byte: u8, high: bool, looked: usize) -> Scan
     ensures { λ r. ⌜ r ≡ scanWhere (eventOf byte) high looked ⌝ }
 {
-    match event_of(byte) {
-        Event::Slot(sent) => Scan {
-            level: sent & high,
-            looked: where_sent(sent, looked),
-        },
-        Event::Reset => Scan {
-            level: high,
-            looked: 0,
-        },
-        Event::Pulse => Scan {
-            level: high,
-            looked: 0,
-        },
-        Event::OverdriveSlot(sent) => Scan {
-            level: sent & high,
-            looked: where_sent(sent, looked),
-        },
-        Event::OverdriveReset => Scan {
-            level: high,
-            looked: 0,
-        },
+    if is_slot(byte) {
+        return Scan {
+            level: !holds_low(byte) & high,
+            looked: asked(byte, looked),
+        };
+    }
+    Scan {
+        level: high,
+        looked: 0,
     }
 }
 
@@ -252,12 +241,29 @@ fn unheard(state: LineState, overdrive: bool) -> LineState
     }
 }
 
-// This is device i's part in a slot at a level, where `overdrive` tells at which speed the slot comes. Inside a
-// transfer a slot only shifts the register, and a device that waits has no part in it: a body is looked for only in the
-// last slot of a transfer. A run's line states are in range from the first event on (proofs/Ranges.antt), so that no
-// range is tested here. What the last slot does has no other caller: a function with two is not inlined, and a line
-// state that goes to it through memory costs more than all else in a slot.
+// A slot does more to a device than shift its register where it is the last of the device's transfer, or where it comes
+// at regular speed and finds the device at overdrive.
+fn ends_in(state: LineState, overdrive: bool) -> bool
+    ensures { λ r. ⌜ r ≡ endsIn overdrive state ⌝ }
+{
+    if !overdrive {
+        return state.is_at_overdrive() | state.is_last();
+    }
+    state.is_at_overdrive() & state.is_last()
+}
+
+// A slot shifts the register of a device at its speed that is inside a transfer.
+fn shifts_in(state: LineState, overdrive: bool) -> bool
+    ensures { λ r. ⌜ r ≡ shiftsIn overdrive state ⌝ }
+{
+    (state.is_at_overdrive() == overdrive) & state.goes_on()
+}
+
+// This is device i's part in a slot at a level that is the last of its transfer, or that comes at regular speed and
+// finds it at overdrive, where `overdrive` tells at which speed the slot comes. No other slot of a run looks for a
+// body. A run's line states are in range from the first event on (proofs/Ranges.antt), so that no range is tested.
 fn slot(image: &mut [u8], i: usize, state: LineState, overdrive: bool, level: bool) -> SlotTurn
+    requires { ⌜ endsIn overdrive state ≡ true ⌝ }
     ensures { λ r. ⌜ (r ≡ slotTurn (turnState (now (image .entry)) i state (slotByte overdrive) level)
         (turnCopied (now (image .entry)) i state (slotByte overdrive) level))
         × (now (image .exit) ≡ turnImage (now (image .entry)) i state (slotByte overdrive) level) ⌝ }
@@ -266,21 +272,11 @@ fn slot(image: &mut [u8], i: usize, state: LineState, overdrive: bool, level: bo
         let next = unheard(state, overdrive);
         return SlotTurn { next, copied: 0 };
     }
-    if state.goes_on() {
-        let next = state.shifted(level);
-        return SlotTurn { next, copied: 0 };
-    }
-    if state.waits() {
-        return SlotTurn {
-            next: state,
-            copied: 0,
-        };
-    }
     let place = place_of(image, i);
     let kind = place.kind;
     let start = place.start;
     let end = place.end;
-    let stepped = state.slot_as_is(kind, &mut image[start..end], level);
+    let stepped = state.end_as_is(kind, &mut image[start..end], level);
     let next = stepped.next;
     let copied = stepped.bytes() as u64;
     SlotTurn { next, copied }
@@ -345,24 +341,20 @@ fn read_heard_pulse(image: &[u8], i: usize, state: LineState) -> LineState
     state.pulsed_as_is(&image[start..end])
 }
 
-// This is device i's line state after a slot at a level, for a search, which only reads the bodies.
+// This is device i's line state after a slot at a level that is the last of its transfer, or that comes at regular
+// speed and finds it at overdrive, for a search, which only reads the bodies.
 fn read_slot(image: &[u8], i: usize, state: LineState, overdrive: bool, level: bool) -> LineState
+    requires { ⌜ endsIn overdrive state ≡ true ⌝ }
     ensures { λ r. ⌜ r ≡ turnState (now (image .entry)) i state (slotByte overdrive) level ⌝ }
 {
     if state.overdrive != overdrive {
         return unheard(state, overdrive);
     }
-    if state.goes_on() {
-        return state.shifted(level);
-    }
-    if state.waits() {
-        return state;
-    }
     let place = place_of(image, i);
     let kind = place.kind;
     let start = place.start;
     let end = place.end;
-    state.step_as_is(kind, &image[start..end], level)
+    state.ended_as_is(kind, &image[start..end], level)
 }
 
 // This is device i's part in a reset or a program pulse that it hears. No slot comes here, so that an event that is not
@@ -546,10 +538,35 @@ pub fn level(lines: &[LineState], n: usize, byte: u8) -> Scan
     scan_of(byte, high, looked)
 }
 
+// The devices from `from` on have their part in a slot at a level, up to the first whose transfer ends in it, or that a
+// regular slot finds at overdrive. The number that is returned is the place of that device, or n where there is none.
+// Inside a transfer a slot only shifts the register, and a device that waits is passed over, as is one at regular speed
+// in a slot at overdrive. Nearly all turns are of this kind, so they have a loop of their own, which loads no more of a
+// line state than it asks for: what was stored in parts is slow to load whole.
+fn shift_all(lines: &mut [LineState], from: usize, n: usize, overdrive: bool, level: bool) -> usize
+    requires { ⌜ (from ≤ n) × (n ≤ length (now lines)) ⌝ }
+    ensures { λ r. ⌜ (r ≡ from + passesFrom overdrive (n - from) from (now (lines .entry)))
+        × (now (lines .exit)
+        ≡ shiftedFrom overdrive level from (passesFrom overdrive (n - from) from (now (lines .entry)))
+        (now (lines .entry))) ⌝ }
+{
+    let mut i: usize = from;
+    while i < n {
+        let state = lines[i];
+        if ends_in(state, overdrive) {
+            break;
+        }
+        if shifts_in(state, overdrive) {
+            lines[i] = state.shifted(level);
+        }
+        i = i + 1;
+    }
+    i
+}
+
 // Each of the first n devices has its part in a slot at a level, one after the other, where `overdrive` tells at which
-// speed the slot comes; no device's part depends on another's. The bytes that they copy are added up. A device that
-// waits at regular speed is passed over, as a slot at either speed leaves it as it is. Slots have a loop of their own,
-// as nearly all events are slots, and each device's part in one is short.
+// speed the slot comes; no device's part depends on another's. The bytes that they copy are added up. Slots have a loop
+// of their own, as nearly all events are slots.
 fn slot_all(
     image: &mut [u8],
     lines: &mut [LineState],
@@ -564,15 +581,14 @@ fn slot_all(
         ≡ turnsUpTo (slotByte overdrive) level n (busState (now (image .entry)) (now (lines .entry)))) ⌝ }
 {
     let mut copied: u64 = 0;
-    let mut i: usize = 0;
+    let mut i: usize = shift_all(lines, 0, n, overdrive, level);
     while i < n {
         let state = lines[i];
-        if !state.waits() {
-            let after = slot(image, i, state, overdrive, level);
-            lines[i] = state_after(after);
-            copied = add_turn(copied, after);
-        }
-        i = i + 1;
+        let after = slot(image, i, state, overdrive, level);
+        lines[i] = state_after(after);
+        copied = add_turn(copied, after);
+        let next = shift_all(lines, i + 1, n, overdrive, level);
+        i = next;
     }
     copied
 }
@@ -637,14 +653,13 @@ fn read_slot_all(image: &[u8], lines: &mut [LineState], n: usize, overdrive: boo
     ensures { λ _. ⌜ now (lines .exit)
         ≡ turnStatesOf (now (image .entry)) (now (lines .entry)) n (slotByte overdrive) level ⌝ }
 {
-    let mut i: usize = 0;
+    let mut i: usize = shift_all(lines, 0, n, overdrive, level);
     while i < n {
         let state = lines[i];
-        if !state.waits() {
-            let next = read_slot(image, i, state, overdrive, level);
-            lines[i] = next;
-        }
-        i = i + 1;
+        let after = read_slot(image, i, state, overdrive, level);
+        lines[i] = after;
+        let next = shift_all(lines, i + 1, n, overdrive, level);
+        i = next;
     }
 }
 

@@ -19,9 +19,9 @@ use Rattle.line.specs.declared.Transfer.{Transfer}
 use Rattle.line.specs.Transfers.{waiting, underWay, goesOn, received}
 use Rattle.line.proofs.Range.{false-true, both, fewer, slot-left, slot-left-beside}
 use Rattle.line.specs.declared.MemoryStage.{MemoryStage}
-use Rattle.rom.specs.Rom.{addressed, romSpeed, romRange}
+use Rattle.rom.specs.Rom.{addressed, romNext, romSpeed, romRange}
 use Rattle.rom.proofs.Range as rom
-use Rattle.sram.specs.Sram.{sramRange}
+use Rattle.sram.specs.Sram.{sramRange, bytesCopied}
 use Rattle.sram.proofs.Range as sram
 use Rattle.eprom.specs.Eprom.{epromRange}
 use Rattle.eprom.proofs.Range as eprom
@@ -31,7 +31,7 @@ use Rattle.device.specs.Device.{lineState, waitingState, resetAt, resetS
 use Rattle.device.specs.Device.{bodyAfterResetAsIs, stateAfterPulseAsIs}
 use Rattle.device.specs.Device.{bodyAfterPulseAsIs, memoryRange, stageRange, lineStateInRange, orWaiting, sendsOf, stateAfterSlot}
 use Rattle.device.specs.Device.{bodyAfterSlot, bodyAfterReset, stateAfterPulse, bodyAfterPulse}
-use Rattle.device.specs.Device.{copyInSlot, bytesInSlotAsIs, bytesInSlot}
+use Rattle.device.specs.Device.{copyInSlot, copyInSlotAsIs, bytesInSlotAsIs, bytesInSlot, stageWrite, stageCopy}
 use Rattle.device.proofs.Keeps.{slot-keeps, reset-keeps, program-keeps}
 
 -- the numbers of a transfer are in their stage's range, at a speed
@@ -262,20 +262,27 @@ waits-only (Rom (OverdriveMatch at before)) kind overdrive register left h z =
 waits-only (Memory m) kind overdrive register left h z =
     absurd (omega (arith, memory-slot m kind left (both (not (isFlat kind)) (memoryRange m kind left) h .1)))
 
--- so a line state in range at regular speed of which no slot is left is that of a device that waits
-pub waits-waiting : (state : LineState) (kind : Kind) (body : List ℕ) → lineStateInRange state kind body ≡ true
-    → waits state ≡ true → state ≡ waitingState
-unfolding waits
-waits-waiting state kind body ranged h =
-    let t = state .transfer in
-    let p = both (eqb (t .left) 0) (not (state .overdrive)) h in
-    let still : t ≡ waiting =
-    waits-only (t .stage) kind (state .overdrive) (t .register) (t .left) (parts state kind body ranged .2) (eqb-true (t .left) 0 (p .0)) in
-    ap (λ (x : Transfer). lineState x (state .overdrive)) still ∙ ap (lineState waiting) (slow (state .overdrive) (p .1))
-  where
-    slow : (b : Bool) → not b ≡ true → b ≡ false
-    slow true e = false-true e
-    slow false e = refl
+-- so a line state in range of which no slot is left is that of a device that waits, and a slot leaves it as it is
+module _ (state : LineState) (kind : Kind) (body : List ℕ) (ranged : lineStateInRange state kind body ≡ true)
+    (none : eqb (state .transfer .left) 0 ≡ true) where
+  still : state ≡ lineState waiting (state .overdrive)
+  still =
+      let t = state .transfer in
+      ap (λ (x : Transfer). lineState x (state .overdrive))
+      (waits-only (t .stage) kind (state .overdrive) (t .register) (t .left) (parts state kind body ranged .2)
+      (eqb-true (t .left) 0 none))
+
+  pub still-steps : (level : Bool) → stateAfterSlotAsIs state kind body level ≡ state
+  unfolding stateAfterSlotAsIs transferAfterSlot speedAfterSlot stageNext stageSpeed romNext romSpeed
+  still-steps level = ap (λ (s : LineState). stateAfterSlotAsIs s kind body level) still ∙ sym still
+
+  pub still-writes : (level : Bool) → bodyAfterSlotAsIs state kind body level ≡ body
+  unfolding bodyAfterSlotAsIs stageWrite
+  still-writes level = ap (λ (s : LineState). bodyAfterSlotAsIs s kind body level) still
+
+  pub still-copies : (level : Bool) → bytesInSlotAsIs state kind body level ≡ 0
+  unfolding bytesInSlotAsIs copyInSlotAsIs stageCopy bytesCopied
+  still-copies level = ap (λ (s : LineState). bytesInSlotAsIs s kind body level) still
 
 -- ---- where a run starts
 

@@ -2,17 +2,19 @@
 // it and of its body.
 //
 // A slot is two functions, which are given the level of the line in a slot that the device hears: `step` returns the
-// line state after it and only reads the body, for a search; `slot` returns the same line state, changes the body and
-// says what a copy did, for a run. A line state that the device cannot be in counts as waiting. The functions whose
-// names end in `as_is` leave that test out: no slot, reset or pulse leads out of the range (proofs/Range.antt), so that
-// a run, whose devices wait at the start, needs it nowhere.
+// line state after it and only reads the body; `slot` returns the same line state, changes the body and says what a
+// copy did. Inside a transfer both are `shifted`; its last slot, in which the stage decides, has functions of its own,
+// `ended_as_is` and `end_as_is`. A search and a run know which slot it is, and call these three. In `sends`, `step`,
+// `slot`, `reset`, `pulsed` and `pulse` a line state that the device cannot be in counts as waiting. No other function
+// tests for that: no slot, reset or pulse leads out of the range (proofs/Range.antt), so that a run, whose devices wait
+// at the start, needs it nowhere.
 use kind::Kind;
 use line::MemoryStage;
 use line::Stage;
 use line::Transfer;
 use sram::CopyDone;
 ghost use mathlib.Core.Path.{_≡_};
-ghost use Rattle.line.specs.Transfers.{goesOn, shifted};
+ghost use Rattle.line.specs.Transfers.{goesOn, lastSlot, received, shifted};
 ghost use Rattle.device.specs.Device.{memoryCommand, memoryNext, stageNext, memoryWrite, stageWrite, memoryReset};
 ghost use Rattle.device.specs.Device.{stageReset, memoryPulse, stagePulse, memoryProgram, stageProgram};
 ghost use Rattle.sram.specs.Sram.{bytesCopied};
@@ -284,50 +286,63 @@ impl LineState {
 
     // ---- a line state as it is
 
-    // A device waits while it has no transfer under way. At regular speed it then sends ones and stays as it is until a
-    // reset.
+    // A device waits that is at regular speed and has no transfer under way: it stays as it is until a reset.
     pub fn waits(self) -> bool
         ensures { λ r. ⌜ r ≡ waits self ⌝ }
     {
-        let transfer = self.transfer;
-        (transfer.left == 0) & !self.overdrive
+        (self.transfer.left == 0) & !self.overdrive
     }
 
     // This is the level that the device sends in a slot.
     pub fn sends_as_is(self) -> bool
         ensures { λ r. ⌜ r ≡ sendsAsIs self ⌝ }
     {
-        let transfer = self.transfer;
-        line::sends(transfer)
+        line::sends(self.transfer.register)
     }
 
-    // A transfer goes on while the next slot is not its last. Such a slot needs neither the kind nor the body, and
-    // changes no body.
+    // A transfer goes on if slots are left of it after the next one. The next one then needs neither the kind nor the
+    // body, and changes no body.
     pub fn goes_on(self) -> bool
         ensures { λ r. ⌜ r ≡ goesOn (self .transfer) ⌝ }
     {
-        let transfer = self.transfer;
-        line::goes_on(transfer)
+        line::goes_on(self.transfer.left)
     }
 
-    // This is the line state after a slot at a level that is not the last of its transfer.
+    // The next slot is the last of the transfer.
+    pub fn is_last(self) -> bool
+        ensures { λ r. ⌜ r ≡ lastSlot (self .transfer) ⌝ }
+    {
+        self.transfer.left == 1
+    }
+
+    // The device is at overdrive speed, else at regular speed.
+    pub fn is_at_overdrive(self) -> bool
+        ensures { λ r. ⌜ r ≡ self .overdrive ⌝ }
+    {
+        self.overdrive
+    }
+
+    // This is the line state after a slot at a level that does no more than shift the register: one after which slots
+    // of the transfer are left.
     pub fn shifted(self, level: bool) -> LineState
         ensures { λ r. ⌜ r ≡ lineState (shifted (self .transfer) level) (self .overdrive) ⌝ }
     {
-        let transfer = self.transfer;
-        LineState {
-            transfer: line::shifted(transfer, level),
-            overdrive: self.overdrive,
-        }
+        let register = bits::shift_in(self.transfer.register, level);
+        let left = line::one_less(self.transfer.left);
+        let mut next = self;
+        next.transfer.register = register;
+        next.transfer.left = left;
+        next
     }
 
-    // This is the line state after a slot at a level.
-    pub fn step_as_is(self, kind: Kind, body: &[u8], level: bool) -> LineState
-        ensures { λ r. ⌜ r ≡ stateAfterSlotAsIs self kind (now (body .entry)) level ⌝ }
+    // This is the line state after the last slot of a transfer, at a level.
+    pub fn ended_as_is(self, kind: Kind, body: &[u8], level: bool) -> LineState
+        ensures { λ r. ⌜ r ≡ lineState
+            (stageNext (self .transfer .stage) kind (self .overdrive) (received (self .transfer) level)
+            (now (body .entry)) level)
+            (stageSpeed (self .transfer .stage) kind (self .overdrive) (received (self .transfer) level)
+            (now (body .entry)) level) ⌝ }
     {
-        if self.goes_on() {
-            return self.shifted(level);
-        }
         let transfer = self.transfer;
         let stage = transfer.stage;
         let overdrive = self.overdrive;
@@ -338,6 +353,34 @@ impl LineState {
         }
     }
 
+    // This is the line state after a slot at a level.
+    pub fn step_as_is(self, kind: Kind, body: &[u8], level: bool) -> LineState
+        ensures { λ r. ⌜ r ≡ stateAfterSlotAsIs self kind (now (body .entry)) level ⌝ }
+    {
+        if self.goes_on() {
+            return self.shifted(level);
+        }
+        self.ended_as_is(kind, body, level)
+    }
+
+    // This is the line state after the last slot of a transfer, at a level, and what a copy did in it; the body is
+    // changed as the slot does.
+    pub fn end_as_is(self, kind: Kind, body: &mut [u8], level: bool) -> Stepped
+        ensures { λ r. ⌜ (r ≡ stepped (lineState
+            (stageNext (self .transfer .stage) kind (self .overdrive) (received (self .transfer) level)
+            (now (body .entry)) level)
+            (stageSpeed (self .transfer .stage) kind (self .overdrive) (received (self .transfer) level)
+            (now (body .entry)) level))
+            (stageCopy (self .transfer .stage) kind (received (self .transfer) level) (now (body .entry))))
+            × (now (body .exit) ≡ stageWrite (self .transfer .stage) kind (received (self .transfer) level)
+            (now (body .entry)) level) ⌝ }
+    {
+        let transfer = self.transfer;
+        let stage = transfer.stage;
+        let value = bits::shift_in(transfer.register, level);
+        stage_end(stage, kind, self.overdrive, value, body, level)
+    }
+
     // This is the line state after a slot at a level, and what a copy did in it; the body is changed as the slot does.
     // Only the last slot of a transfer can change it.
     pub fn slot_as_is(self, kind: Kind, body: &mut [u8], level: bool) -> Stepped
@@ -345,14 +388,13 @@ impl LineState {
             (copyInSlotAsIs self kind (now (body .entry)) level))
             × (now (body .exit) ≡ bodyAfterSlotAsIs self kind (now (body .entry)) level) ⌝ }
     {
-        let transfer = self.transfer;
-        let overdrive = self.overdrive;
         if self.goes_on() {
-            return stepped_to(line::shifted(transfer, level), overdrive, CopyDone::NoCopy);
+            return Stepped {
+                next: self.shifted(level),
+                copy: CopyDone::NoCopy,
+            };
         }
-        let stage = transfer.stage;
-        let value = bits::shift_in(transfer.register, level);
-        stage_end(stage, kind, overdrive, value, body, level)
+        self.end_as_is(kind, body, level)
     }
 
     // A reset changes the body by the stage in which it comes, and leaves the device at the ROM command, at the speed

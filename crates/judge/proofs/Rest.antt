@@ -80,7 +80,9 @@ module _ (image : List ℕ) (known : Known image) (rest : List ℕ) where
 
     place-q : placeIn Q i ≡ placed (d .kind) (length before) (length (d .body))
     place-q =
-        place-known Q i (omega (arith, count-q, within)) (omega (arith, start-q, size-q, inside, length-append P rest))
+        place-known Q i (omega (arith, count-q, within))
+        (omega (arith, count-q, contents-length image known, length-append (tableOfContents image) (bodiesOf (xs ++ d ∷ ys)), length-append P rest))
+        (omega (arith, start-q, size-q, inside, length-append P rest))
         ∙ (λ j. placed (kind-q j) (start-q j) (size-q j))
 
     -- it is the same device, in the same line state

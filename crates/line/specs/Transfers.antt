@@ -38,7 +38,7 @@
 --   Stored field address          the address, inside the field
 use Prim.Native.Nat.{ℕ, _-_}
 use mathlib.Core.Bool.{Bool, _&&_}
-use lib.Dec.{ltb, leb}
+use lib.Dec.{eqb, ltb, leb}
 use Rattle.bits.specs.Bit.{bitOf, shiftIn}
 use Rattle.line.specs.declared.RomStage.the-variants.{Waiting, Command}
 use Rattle.line.specs.declared.MemoryStage.the-variants.{Command as MemoryCommand}
@@ -85,6 +85,10 @@ transferSends transfer = bitOf (transfer .register) 0
 -- A transfer goes on if slots are left of it after the next one.
 abbrev pub goesOn : Transfer → Bool
 goesOn transfer = ltb 1 (transfer .left)
+
+-- The next slot is the last of the transfer if one is left.
+abbrev pub lastSlot : Transfer → Bool
+lastSlot transfer = eqb (transfer .left) 1
 
 -- A slot shifts the level of the line into the register; after eight slots it holds the byte that their levels spell.
 abbrev pub received : Transfer → Bool → ℕ

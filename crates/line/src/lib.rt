@@ -8,7 +8,9 @@
 ghost use mathlib.Core.Path.{_≡_};
 ghost use Prim.Native.Nat.{_-_};
 ghost use Rattle.line.specs.Transfers.{waiting, sending, listening, listeningOnce, atRomCommand};
-ghost use Rattle.line.specs.Transfers.{atMemoryCommand, underWay, transferSends, goesOn, shifted};
+ghost use lib.Dec.{ltb};
+ghost use Rattle.bits.specs.Bit.{bitOf};
+ghost use Rattle.line.specs.Transfers.{atMemoryCommand, underWay};
 
 // The ROM stage decides which device is addressed. A device that waits for a reset is in this stage too.
 pub enum RomStage {
@@ -197,35 +199,26 @@ pub fn under_way(slots: u8, left: u8) -> bool
 
 // ---- a slot of a transfer
 
+// The functions of a slot are given the number that they need and not the transfer: the compiler may load whole what
+// goes to a function as a struct, and what was stored by the byte is slow to load so.
+
 // A device sends the lowest bit of its register.
-pub fn sends(transfer: Transfer) -> bool
-    ensures { λ r. ⌜ r ≡ transferSends transfer ⌝ }
+pub fn sends(register: u8) -> bool
+    ensures { λ r. ⌜ r ≡ bitOf register 0 ⌝ }
 {
-    bits::bit_of(transfer.register, 0)
+    bits::bit_of(register, 0)
 }
 
 // A transfer goes on if slots are left of it after the next one.
-pub fn goes_on(transfer: Transfer) -> bool
-    ensures { λ r. ⌜ r ≡ goesOn transfer ⌝ }
+pub fn goes_on(left: u8) -> bool
+    ensures { λ r. ⌜ r ≡ ltb 1 left ⌝ }
 {
-    1 < transfer.left
+    1 < left
 }
 
 // One slot less is left, or none where none was.
-fn one_less(left: u8) -> u8
+pub fn one_less(left: u8) -> u8
     ensures { λ r. ⌜ r ≡ left - 1 ⌝ }
 {
     if 0 < left { left - 1 } else { 0 }
-}
-
-// This is the same transfer after a slot at a level of the line.
-pub fn shifted(transfer: Transfer, level: bool) -> Transfer
-    ensures { λ r. ⌜ r ≡ shifted transfer level ⌝ }
-{
-    let stage = transfer.stage;
-    Transfer {
-        register: bits::shift_in(transfer.register, level),
-        left: one_less(transfer.left),
-        stage,
-    }
 }

@@ -1,6 +1,6 @@
 -- A search that goes on: what is written so far, and a drive that gives the rest. The bodies are the image's throughout, so that a search
 -- need only read it. For the loop of a search. Assumes nothing.
-use Prim.Native.Nat.{ℕ, suc, _+_, _-_, _<_, _≤_}
+use Prim.Native.Nat.{ℕ, suc, _+_, _-_, _<_, _≤_, _*_}
 use mathlib.Core.Path.{_≡_, refl, sym, ap, _∙_, subst}
 use mathlib.Core.Bool.{Bool, true, false, cond}
 use mathlib.Core.List.{List, [], _∷_, _++_, map, append-nil, append-assoc}
@@ -127,7 +127,7 @@ module _ (image : List ℕ) (known : Known image) where
   unfolding deviceIn deviceAtPlace placeIn
   device-in i state h =
       let size : offsetAt image i + bodySize (kindAt image i) - offsetAt image i ≡ bodySize (kindAt image i) = omega arith in
-      rw (lt-ltb i (countOf image) h, le-leb (offsetAt image i + bodySize (kindAt image i)) (length image) (inside image known i h)) (rw size)
+      rw (lt-ltb i (countOf image) h, lt-ltb (5 + 4 * i) (length image) (omega (arith, h, known .entries)), le-leb (offsetAt image i + bodySize (kindAt image i)) (length image) (inside image known i h)) (rw size)
 
   -- so its turn gives its next line state
   turn-in : (i : ℕ) (state : LineState) (e : ℕ) (level : Bool) → i < countOf image → InRange (deviceWith (kindAt image i) (bodyAt image i) state)

@@ -11,7 +11,7 @@ use Rattle.bus.specs.Run.{RunOutcome, runOf}
 use Rattle.search.specs.declared.Found.{Found}
 use Rattle.search.specs.Found.{SearchOutcome, searchOutcomeOf}
 
--- A number is written where a run, a search or a judgement is not refused, and else stays as it was.
+-- A number is written where a call is not refused, and else stays as it was; judge_call cites it too.
 unfoldable pub countAfter : ℕ → ℕ → ℕ → ℕ
 countAfter zero count before = count
 countAfter (suc number) count before = before

@@ -265,6 +265,19 @@ module _ {M : Type 1} {𝓤 : URA M} {H : Heap 𝓤} {A : Atoms 𝓤} {K : Type 
     ifs t o held failed = first t $ branches t o (held _ (λ Δ s. record { prf = s .prf }))
         (failed _ (λ Δ s. record { prf = s .prf }))
 
+    -- the same in a loop, where an arm may leave it: `out` goes on with what is behind the loop
+    pub ifs-out : K → {x : Operand} {a b rest : Body} {y : Bool} → Opd K W Γ E x (vbool y)
+        → ((Q : Post 𝓤 H) → ((Δ : List (Item 𝓤)) → Seq K W Δ (runs C Λ E rest q) → Seq K W Δ (prop (post 𝓤 H Q next)))
+        → ((Δ : List (Item 𝓤)) → Seq K W Δ (prop (post 𝓤 H q (exits 1))) → Seq K W Δ (prop (post 𝓤 H Q (exits 1))))
+        → T y → Seq K W Γ (runs C Λ E a Q))
+        → ((Q : Post 𝓤 H) → ((Δ : List (Item 𝓤)) → Seq K W Δ (runs C Λ E rest q) → Seq K W Δ (prop (post 𝓤 H Q next)))
+        → ((Δ : List (Item 𝓤)) → Seq K W Δ (prop (post 𝓤 H q (exits 1))) → Seq K W Δ (prop (post 𝓤 H Q (exits 1))))
+        → T (not y) → Seq K W Γ (runs C Λ E b Q))
+        → Seq K W Γ (runs C Λ E (seq (cond x a b) rest) q)
+    ifs-out t o held failed = first t $ branches t o
+        (held _ (λ Δ s. record { prf = s .prf }) (λ Δ s. record { prf = s .prf }))
+        (failed _ (λ Δ s. record { prf = s .prf }) (λ Δ s. record { prf = s .prf }))
+
     -- the last statement of a turn, `i = x + y`
     pub sums-last : K → {i : ℕ} {x y : Operand} {v₀ : Val} {a b c : ℕ} → Opd K W Γ E x (vint w64 a)
         → Opd K W Γ E y (vint w64 b) → a + b ≡ c → a + b < 2 ^ 64
@@ -404,6 +417,21 @@ Looked R κ q z ys b o = fobor κ q (arr-parts (shares R) (length ys) .part z ys
 
 module _ {M : Type 1} {𝓤 : URA M} {H : Heap 𝓤} {A : Atoms 𝓤} {K : Type 0} {W : Given 𝓤 H A} {Γ : List (Item 𝓤)}
     {G : Goal 𝓤 H} where
+  -- a slice by a length that is the same
+  pub as-long : K → (R : RattleType) (κ : Lft) (x : RefT (List (R .Denot))) (zs : List (R .Denot)) (i j : ℕ) → i ≡ j
+      → Step K W (‵ (MutSlice erased κ R .own (to x zs) (sliceVal (x .ptr .0, x .ptr .1) j ∷ [])) ∷ Γ) G
+      (‵ (MutSlice erased κ R .own (to x zs) (sliceVal (x .ptr .0, x .ptr .1) i ∷ [])) ∷ Γ) G
+  as-long t R κ x zs i j e = step (λ s.
+      subst (λ (n : ℕ). Seq K W (‵ (MutSlice erased κ R .own (to x zs) (sliceVal (x .ptr .0, x .ptr .1) n ∷ [])) ∷ Γ) G) (sym e) s)
+
+  -- a walk may go by a test of numbers that no code makes
+  pub whether : K → (d : Bool) → (d ≡ true → Seq K W Γ G) → (d ≡ false → Seq K W Γ G) → Seq K W Γ G
+  whether t d held failed = choose d refl
+    where
+      choose : (b : Bool) → d ≡ b → Seq K W Γ G
+      choose true e = held e
+      choose false e = failed e
+
   pub opens-mut : K → Soaks G → (R : RattleType) (κ : Lft) (x : RefT (List (R .Denot))) {q : Share} {vs : List Val}
       → Step K W (‵ (row R fullShare (x .now) (x .ptr .0) (x .ptr .1))
       ∷ ‵ (Opened R κ q (x .name) (x .now) (x .ptr .0) (x .ptr .1)) ∷ Γ) G

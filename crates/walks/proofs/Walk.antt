@@ -64,7 +64,7 @@ pub use prog.Routine.{Routine}
 pub use prog.Wp.{Heap, Tables, next, exits}
 pub use ghost.Atoms.{Atoms}
 pub use types.Kit.{Given, Item, ‵, _$_, Seq, Sq, Post, post, prop, runs, atRet, !, move, drop, rewrite}
-pub use types.Run.{skips, stays, leaves-loop, look, forget, stop, hop, from, lit, unit-lit, of-opd, and-then, no-more}
+pub use types.Run.{skips, jumps, branches, stays, leaves-loop, look, forget, stop, hop, from, lit, unit-lit, of-opd, and-then, no-more}
 pub use types.Run.{bin, assigns, assigns-last, returns, addr}
 pub use types.Part.{agg, rep}
 pub use denote.Laws.{Is}
@@ -78,8 +78,8 @@ pub use Rattle.walks.proofs.Frame.{Cell, void, has, Blocks, env, stand,
 pub use Rattle.walks.proofs.Params.{Shape, mutK, shrK, dataK, Walk, End, Met, enters, asks, asks-last}
 pub use Rattle.walks.proofs.Params.{finishes, proved}
 pub use Rattle.walks.proofs.Vars.{num, nil, truth, var, head, count, new, renew, bump, whiles, counted}
-pub use Rattle.walks.proofs.Vars.{counted-where, byte-of, to, under, ptr, val, points, points-byte, again, ifs}
-pub use Rattle.walks.proofs.Vars.{lands-new, ends-new, ends-renew, Opened, opens-mut, closes-mut, also, lends}
+pub use Rattle.walks.proofs.Vars.{counted-where, byte-of, to, under, ptr, val, points, points-byte, again, ifs, ifs-out}
+pub use Rattle.walks.proofs.Vars.{lands-new, ends-new, ends-renew, Opened, as-long, whether, opens-mut, closes-mut, also, lends}
 pub use Rattle.walks.proofs.Vars.{backs, lands-renew, sums-last, loops-in, goes-in, goes-out, shares-on}
 pub use Rattle.walks.proofs.Vars.{shares-back, Looked, opens-shr, closes-shr}
 pub use Rattle.walks.proofs.Rows.{sees, in-row, elem, onto-row, as-many}

@@ -1,44 +1,21 @@
-use mathlib.Core.Path.{refl, sym, _∙_}
+use mathlib.Core.Path.{_∙_, sym}
 use borrow.Author.Needs.{needs}
-use Rattle.bus.specs.Bus.{masterHigh}
+use borrow.Author.Tests.{not-true, not-false}
+use Rattle.bus.specs.Bus.{eventOf, masterHigh}
 use Rattle.bus.specs.Loops.{askedOf}
 use Rattle.bus.proofs.asked.Statement.{statement}
 use Rattle.bus.proofs.asked.Tie as tie
 
+holds-low-requires : tie.Need-holds-low-requires
+holds-low-requires c κs = search needs
+
 returns : tie.Need-returns
-unfolding askedOf masterHigh
-returns c = rw (sym (c .before .before .before .before .event-of .ensures) ∙ c .before .before .sent .given .1, c .where-sent .ensures)
+unfolding askedOf
+returns c = simp (not-true (masterHigh (eventOf (c .before .before .args .byte))) (sym (c .before .holds-low .ensures) ∙ c .if1 .taken))
 
 returns-2 : tie.Need-returns-2
-unfolding askedOf masterHigh
-returns-2 c = rw (sym (c .before .before .event-of .ensures) ∙ c .enum-told .given .1)
-
-returns-3 : tie.Need-returns-3
-unfolding askedOf masterHigh
-returns-3 c = rw (sym (c .before .before .event-of .ensures) ∙ c .enum-told2 .given .1)
-
-returns-4 : tie.Need-returns-4
-unfolding askedOf masterHigh
-returns-4 c = rw (sym (c .before .before .before .before .event-of .ensures) ∙ c .before .before .sent2 .given .1, c .where-sent2 .ensures)
-
-returns-5 : tie.Need-returns-5
-unfolding askedOf masterHigh
-returns-5 c = rw (sym (c .before .before .event-of .ensures) ∙ c .enum-told3 .given .1)
+unfolding askedOf
+returns-2 c = simp (not-false (masterHigh (eventOf (c .before .before .args .byte))) (sym (c .before .holds-low .ensures) ∙ c .if1 .left))
 
 pub asked-spec : {M : Type 1} → statement M
-asked-spec =
-    tie.close
-    (tie.spec
-    (λ c κs. search needs)
-    (λ c. search needs)
-    (λ c κs. search needs)
-    (λ c. search needs)
-    (λ c. search needs)
-    (λ c. search needs)
-    (λ c κs. search needs)
-    (λ c. search needs)
-    returns
-    returns-2
-    returns-3
-    returns-4
-    returns-5)
+asked-spec = tie.close (tie.spec holds-low-requires returns returns-2)

@@ -1,73 +1,69 @@
-use Rattle.bus.proofs.Ranges.{double}
-use Rattle.bus.specs.Loops.{answersHigh, leavesHigh}
-use Rattle.bus.specs.Bus.{hears}
-use mathlib.Core.Bool.{not, or-false}
-use mathlib.Core.Path.{refl, sym, _∙_}
+use mathlib.Core.Path.{_∙_, sym, ap}
+use mathlib.Core.Bool.{Bool, not, _||_}
 use borrow.Author.Needs.{needs}
+use Rattle.device.specs.declared.LineState.{LineState}
+use Rattle.bus.specs.declared.Event.{Event}
+use Rattle.bus.specs.Bus.{eventOf}
+use Rattle.bus.specs.Loops.{leavesHigh}
+use Rattle.bus.proofs.Idle.{other-pulse}
+use Rattle.bus.proofs.Tests.{high-overdrive, high-regular, reset-low, overdrive-reset-high, pulse-high}
 use Rattle.bus.proofs.leaves_high.Statement.{statement}
 use Rattle.bus.proofs.leaves_high.Tie as tie
 
-event-of-requires : tie.Need-event-of-requires
-event-of-requires c κs = search needs
+is-slot-requires : tie.Need-is-slot-requires
+is-slot-requires c κs = search needs
 
-enum-told : tie.Need-enum-told
-enum-told c = search needs
+is-overdrive-requires : tie.Need-is-overdrive-requires
+is-overdrive-requires c κs = search needs
 
 sends-as-is-requires : tie.Need-sends-as-is-requires
 sends-as-is-requires c κs = search needs
 
-enum-told-2 : tie.Need-enum-told-2
-enum-told-2 c = search needs
-
-enum-told-3 : tie.Need-enum-told-3
-enum-told-3 c = search needs
-
-enum-told-4 : tie.Need-enum-told-4
-enum-told-4 c = search needs
+returns : tie.Need-returns
+returns c =
+    let a = c .before .before .before .before .before .before .args in
+    let slot = sym (c .before .before .before .before .before .is-slot .ensures) ∙ c .before .before .before .before .if1 .taken in
+    let fast = sym (c .before .before .before .is-overdrive .ensures) ∙ c .before .before .if2 .taken in
+    ap (λ (b : Bool). not (a .state .overdrive) || b) (c .sends-as-is .ensures) ∙ high-overdrive (eventOf (a .byte)) (a .state) slot fast
 
 sends-as-is-requires-2 : tie.Need-sends-as-is-requires-2
 sends-as-is-requires-2 c κs = search needs
 
-enum-told-5 : tie.Need-enum-told-5
-enum-told-5 c = search needs
-
-returns : tie.Need-returns
-unfolding leavesHigh answersHigh hears
-returns c =
-    let state = c .before .before .before .before .before .args .state in
-    rw (sym (c .before .before .before .before .event-of .ensures) ∙ c .before .before .enum-told .given .1, double (state .overdrive), c .before .sends-as-is .ensures)
-
 returns-2 : tie.Need-returns-2
-unfolding leavesHigh answersHigh hears
-returns-2 c = rw (sym (c .before .before .event-of .ensures) ∙ c .enum-told2 .given .1)
+returns-2 c =
+    let a = c .before .before .before .before .before .before .args in
+    let slot = sym (c .before .before .before .before .before .is-slot .ensures) ∙ c .before .before .before .before .if1 .taken in
+    let slow = sym (c .before .before .before .is-overdrive .ensures) ∙ c .before .before .if2 .left in
+    ap (λ (b : Bool). (a .state .overdrive) || b) (c .before .sends-as-is2 .ensures) ∙ high-regular (eventOf (a .byte)) (a .state) slot slow
 
 returns-3 : tie.Need-returns-3
-unfolding leavesHigh answersHigh hears
-returns-3 c = rw (sym (c .before .before .event-of .ensures) ∙ c .enum-told3 .given .1)
+unfolding eventOf
+returns-3 c =
+    let a = c .before .before .before .args in
+    reset-low (a .state) ∙ sym (ap (λ (e : Event). leavesHigh e (a .state)) (ap eventOf (c .match .keys1)))
 
 returns-4 : tie.Need-returns-4
-unfolding leavesHigh answersHigh hears
-returns-4 c = rw (sym (c .before .before .before .before .event-of .ensures) ∙ c .before .before .enum-told4 .given .1, c .sends-as-is2 .ensures)
+unfolding eventOf
+returns-4 c =
+    let a = c .before .before .before .before .args in
+    overdrive-reset-high (a .state) ∙ sym (ap (λ (e : Event). leavesHigh e (a .state)) (ap eventOf (c .before .match .keys2)))
 
 returns-5 : tie.Need-returns-5
-unfolding leavesHigh answersHigh hears
 returns-5 c =
-    let state = c .before .before .before .before .args .state in
-    rw (sym (c .before .before .before .event-of .ensures) ∙ c .before .enum-told5 .given .1) (sym (or-false (not (state .overdrive))))
+    let a = c .before .before .before .args in
+    let other = sym (c .before .before .is-slot .ensures) ∙ c .before .if1 .left in
+    let pulse = other-pulse (a .byte) other (c .match .rest .0 .1) (c .match .rest .1) in
+    pulse-high (a .state) ∙ sym (ap (λ (e : Event). leavesHigh e (a .state)) pulse)
 
 pub leaves-high-spec : {M : Type 1} → statement M
 leaves-high-spec =
     tie.close
     (tie.spec
-    event-of-requires
-    enum-told
+    is-slot-requires
+    is-overdrive-requires
     sends-as-is-requires
-    enum-told-2
-    enum-told-3
-    enum-told-4
-    sends-as-is-requires-2
-    enum-told-5
     returns
+    sends-as-is-requires-2
     returns-2
     returns-3
     returns-4

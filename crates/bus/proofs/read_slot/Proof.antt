@@ -1,7 +1,7 @@
 use mathlib.Core.Path.{refl, sym, _∙_}
 use native.Mathlib.Omega.{arith}
 use borrow.Author.Needs.{needs}
-use Rattle.bus.proofs.Idle.{own-heard, other-unheard, unheard-slot-state, inside-state, idle-slot-state, heard-slot-state}
+use Rattle.bus.proofs.Idle.{own-heard, other-unheard, unheard-slot-state, ends-last, last-state}
 use Rattle.bus.proofs.Laws.{inside-of, place-has}
 use Rattle.bus.proofs.read_slot.Statement.{statement}
 use Rattle.bus.proofs.read_slot.Tie as tie
@@ -15,58 +15,37 @@ returns c =
     let deaf = other-unheard (a .state) (a .overdrive) (c .before .if1 .taken) in
     c .unheard .ensures ∙ unheard-slot-state (a .state) (a .overdrive) deaf (a .image .now) (a .i) (a .level)
 
-goes-on-requires : tie.Need-goes-on-requires
-goes-on-requires c κs = search needs
-
-shifted-requires : tie.Need-shifted-requires
-shifted-requires c κs = search needs
-
-returns-2 : tie.Need-returns-2
-returns-2 c =
-    let a = c .before .before .before .before .before .before .args in
-    let heard = own-heard (a .state) (a .overdrive) (c .before .before .before .if1 .left) in
-    let inside = sym (c .before .before .goes-on .ensures) ∙ c .before .if2 .taken in
-    c .shifted .ensures ∙ inside-state (a .state) (a .overdrive) heard inside (a .image .now) (a .i) (a .level)
-
-waits-requires : tie.Need-waits-requires
-waits-requires c κs = search needs
-
-returns-3 : tie.Need-returns-3
-returns-3 c =
-    let a = c .before .before .before .before .before .before .before .args in
-    sym (idle-slot-state (a .image .now) (a .i) (a .state) (sym (c .before .waits .ensures) ∙ c .if3 .taken) (a .level) (a .overdrive))
-
 place-of-requires : tie.Need-place-of-requires
 place-of-requires c κs = search needs
 
-sub-step-as-is : tie.Need-sub-step-as-is
-sub-step-as-is c =
+sub-ended-as-is : tie.Need-sub-ended-as-is
+sub-ended-as-is c =
     let inside = inside-of _ _ _ (c .place-of .ensures) in
     omega arith
 
-part-step-as-is-start : tie.Need-part-step-as-is-start
-part-step-as-is-start c =
+part-ended-as-is-start : tie.Need-part-ended-as-is-start
+part-ended-as-is-start c =
     let inside = inside-of _ _ _ (c .place-of .ensures) in
     omega arith
 
-part-step-as-is-end : tie.Need-part-step-as-is-end
-part-step-as-is-end c =
+part-ended-as-is-end : tie.Need-part-ended-as-is-end
+part-ended-as-is-end c =
     let inside = inside-of _ _ _ (c .place-of .ensures) in
     omega arith
 
-step-as-is-requires : tie.Need-step-as-is-requires
-step-as-is-requires c κs = search needs
+ended-as-is-requires : tie.Need-ended-as-is-requires
+ended-as-is-requires c κs = search needs
 
-returns-4 : tie.Need-returns-4
-returns-4 c =
+returns-2 : tie.Need-returns-2
+returns-2 c =
     let p = c .before .before .place-of in
     let tested = c .before .before .before in
-    let awake = sym (tested .before .waits .ensures) ∙ tested .if3 .left in
-    let a = tested .before .before .before .before .before .before .before .args in
-    let heard = own-heard (a .state) (a .overdrive) (tested .before .before .before .before .if1 .left) in
+    let a = tested .before .before .before .args in
+    let heard = own-heard (a .state) (a .overdrive) (tested .if1 .left) in
+    let last = ends-last (a .overdrive) (a .state) (tested .before .before .before .pre) heard in
     let own = place-has (a .image .now) (a .i) (p .result) (p .ensures) in
-    rw (heard-slot-state (a .state) (a .overdrive) heard awake (a .image .now) (a .i) (a .level), own .0, own .1)
-    (c .step-as-is .ensures)
+    rw (last-state (a .state) (a .overdrive) heard last (a .image .now) (a .i) (a .level), own .0, own .1)
+    (c .ended-as-is .ensures)
 
 pub read-slot-spec : {M : Type 1} → statement M
 read-slot-spec =
@@ -74,14 +53,9 @@ read-slot-spec =
     (tie.spec
     unheard-requires
     returns
-    goes-on-requires
-    shifted-requires
-    returns-2
-    waits-requires
-    returns-3
     place-of-requires
-    sub-step-as-is
-    part-step-as-is-start
-    part-step-as-is-end
-    step-as-is-requires
-    returns-4)
+    sub-ended-as-is
+    part-ended-as-is-start
+    part-ended-as-is-end
+    ended-as-is-requires
+    returns-2)

@@ -3,7 +3,7 @@ use mathlib.Core.Bool.{true}
 use borrow.Author.Needs.{needs}
 use Rattle.bus.specs.Bus.{eventOf}
 use Rattle.bus.specs.Loops.{heardStateAsIs, deviceAtPlace, deviceIn, kindIn, bodyIn}
-use Rattle.bus.proofs.Idle.{other-over, other-pulse, heard-state}
+use Rattle.bus.proofs.Idle.{other-pulse, heard-state}
 use Rattle.bus.proofs.read_turn.Statement.{statement}
 use Rattle.bus.proofs.read_turn.Tie as tie
 
@@ -23,8 +23,7 @@ returns c =
     let a = s .args in
     let m = c .before .match in
     let event = ap eventOf (m .keys1) in
-    let over = other-over (a .byte) (s .pre .0) in
-    rw (heard-state (a .byte) over (a .image .now) (a .i) (a .state) (s .pre .1) true, event) (c .at-reset .ensures)
+    rw (heard-state (a .byte) (s .pre .0) (a .image .now) (a .i) (a .state) (s .pre .1) true, event) (c .at-reset .ensures)
 
 returns-2 : tie.Need-returns-2
 unfolding eventOf heardStateAsIs deviceIn deviceAtPlace kindIn bodyIn
@@ -33,8 +32,7 @@ returns-2 c =
     let a = s .args in
     let m = c .before .match in
     let event = ap eventOf (m .keys2) in
-    let over = other-over (a .byte) (s .pre .0) in
-    rw (heard-state (a .byte) over (a .image .now) (a .i) (a .state) (s .pre .1) true, event) (c .at-reset2 .ensures)
+    rw (heard-state (a .byte) (s .pre .0) (a .image .now) (a .i) (a .state) (s .pre .1) true, event) (c .at-reset2 .ensures)
 
 returns-3 : tie.Need-returns-3
 unfolding heardStateAsIs deviceIn deviceAtPlace kindIn bodyIn
@@ -43,8 +41,7 @@ returns-3 c =
     let a = s .args in
     let m = c .before .match in
     let event = other-pulse (a .byte) (s .pre .0) (m .rest .0 .1) (m .rest .1) in
-    let over = other-over (a .byte) (s .pre .0) in
-    rw (heard-state (a .byte) over (a .image .now) (a .i) (a .state) (s .pre .1) true, event) (c .read-heard-pulse .ensures)
+    rw (heard-state (a .byte) (s .pre .0) (a .image .now) (a .i) (a .state) (s .pre .1) true, event) (c .read-heard-pulse .ensures)
 
 pub read-turn-spec : {M : Type 1} → statement M
 read-turn-spec =

@@ -1,44 +1,35 @@
-use mathlib.Core.Path.{refl, sym, _∙_}
+use mathlib.Core.Path.{_∙_, sym, ap}
+use mathlib.Core.Bool.{Bool}
 use borrow.Author.Needs.{needs}
-use Rattle.bus.specs.Bus.{masterHigh, readSlot}
-use Rattle.bus.specs.Loops.{scanWhere}
+use Rattle.bus.specs.Bus.{eventOf, masterHigh}
+use Rattle.bus.specs.Loops.{scanWhere, askedOf}
+use Rattle.bus.proofs.Tests.{slot-read, other-read, not-not}
 use Rattle.bus.proofs.scan_of.Statement.{statement}
 use Rattle.bus.proofs.scan_of.Tie as tie
 
+is-slot-requires : tie.Need-is-slot-requires
+is-slot-requires c κs = search needs
+
+holds-low-requires : tie.Need-holds-low-requires
+holds-low-requires c κs = search needs
+
+asked-requires : tie.Need-asked-requires
+asked-requires c κs = search needs
+
 returns : tie.Need-returns
-unfolding scanWhere masterHigh readSlot
-returns c = rw (sym (c .before .before .before .before .event-of .ensures) ∙ c .before .before .sent .given .1, c .where-sent .ensures)
+unfolding scanWhere askedOf
+returns c =
+    let a = c .before .before .before .before .args in
+    let slot = sym (c .before .before .before .is-slot .ensures) ∙ c .before .before .if1 .taken in
+    rw (c .asked .ensures, c .before .holds-low .ensures, ← not-not (masterHigh (eventOf (a .byte))), slot-read (eventOf (a .byte)) slot)
 
 returns-2 : tie.Need-returns-2
-unfolding scanWhere masterHigh readSlot
-returns-2 c = rw (sym (c .before .before .event-of .ensures) ∙ c .enum-told .given .1)
-
-returns-3 : tie.Need-returns-3
-unfolding scanWhere masterHigh readSlot
-returns-3 c = rw (sym (c .before .before .event-of .ensures) ∙ c .enum-told2 .given .1)
-
-returns-4 : tie.Need-returns-4
-unfolding scanWhere masterHigh readSlot
-returns-4 c = rw (sym (c .before .before .before .before .event-of .ensures) ∙ c .before .before .sent2 .given .1, c .where-sent2 .ensures)
-
-returns-5 : tie.Need-returns-5
-unfolding scanWhere masterHigh readSlot
-returns-5 c = rw (sym (c .before .before .event-of .ensures) ∙ c .enum-told3 .given .1)
+unfolding scanWhere
+returns-2 c =
+    let a = c .before .before .args in
+    let other = other-read (eventOf (a .byte)) (sym (c .before .is-slot .ensures) ∙ c .if1 .left) in
+    rw (other .0, other .1)
 
 pub scan-of-spec : {M : Type 1} → statement M
 scan-of-spec =
-    tie.close
-    (tie.spec
-    (λ c κs. search needs)
-    (λ c. search needs)
-    (λ c κs. search needs)
-    (λ c. search needs)
-    (λ c. search needs)
-    (λ c. search needs)
-    (λ c κs. search needs)
-    (λ c. search needs)
-    returns
-    returns-2
-    returns-3
-    returns-4
-    returns-5)
+    tie.close (tie.spec is-slot-requires holds-low-requires asked-requires returns returns-2)

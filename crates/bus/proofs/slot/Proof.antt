@@ -6,8 +6,7 @@ use borrow.Rule.Slice.PartMut.{post-is}
 use Rattle.device.specs.Device.{bytesInSlotAsIs}
 use Rattle.bus.specs.Loops.{slotTurn, imageWithBody}
 use Rattle.bus.proofs.Idle.{own-heard, other-unheard, unheard-slot-state, unheard-slot-image, unheard-slot-copied}
-use Rattle.bus.proofs.Idle.{inside-state, inside-image, inside-copied, idle-slot-state, idle-slot-image, idle-slot-copied}
-use Rattle.bus.proofs.Idle.{heard-slot-state, heard-slot-image, heard-slot-copied}
+use Rattle.bus.proofs.Idle.{ends-last, last-state, last-image, last-copied, last-copy}
 use Rattle.bus.proofs.Laws.{inside-of, place-has}
 use Rattle.bus.proofs.slot.Statement.{statement}
 use Rattle.bus.proofs.slot.Tie as tie
@@ -24,55 +23,26 @@ returns c =
       unheard-slot-image (a .state) (a .overdrive) deaf (a .image .now) (a .i) (a .level),
     )
 
-goes-on-requires : tie.Need-goes-on-requires
-goes-on-requires c κs = search needs
-
-shifted-requires : tie.Need-shifted-requires
-shifted-requires c κs = search needs
-
-returns-2 : tie.Need-returns-2
-returns-2 c =
-    let a = c .before .before .before .before .before .before .args in
-    let heard = own-heard (a .state) (a .overdrive) (c .before .before .before .if1 .left) in
-    let inside = sym (c .before .before .goes-on .ensures) ∙ c .before .if2 .taken in
-    let next = c .shifted .ensures ∙ inside-state (a .state) (a .overdrive) heard inside (a .image .now) (a .i) (a .level) in (
-      (λ j. slotTurn (next j) (inside-copied (a .state) (a .overdrive) heard inside (a .image .now) (a .i) (a .level) j)),
-      inside-image (a .state) (a .overdrive) heard inside (a .image .now) (a .i) (a .level),
-    )
-
-waits-requires : tie.Need-waits-requires
-waits-requires c κs = search needs
-
-returns-3 : tie.Need-returns-3
-returns-3 c =
-    let a = c .before .before .before .before .before .before .before .args in
-    let idle = sym (c .before .waits .ensures) ∙ c .if3 .taken in (
-      (λ j. slotTurn
-          (sym (idle-slot-state (a .image .now) (a .i) (a .state) idle (a .level) (a .overdrive)) j)
-          (sym (idle-slot-copied (a .image .now) (a .i) (a .state) idle (a .level) (a .overdrive)) j)),
-      sym (idle-slot-image (a .image .now) (a .i) (a .state) idle (a .level) (a .overdrive)),
-    )
-
 place-of-requires : tie.Need-place-of-requires
 place-of-requires c κs = search needs
 
-sub-slot-as-is : tie.Need-sub-slot-as-is
-sub-slot-as-is c =
+sub-end-as-is : tie.Need-sub-end-as-is
+sub-end-as-is c =
     let inside = inside-of _ _ _ (c .place-of .ensures) in
     omega arith
 
-part-slot-as-is-start : tie.Need-part-slot-as-is-start
-part-slot-as-is-start c =
+part-end-as-is-start : tie.Need-part-end-as-is-start
+part-end-as-is-start c =
     let inside = inside-of _ _ _ (c .place-of .ensures) in
     omega arith
 
-part-slot-as-is-end : tie.Need-part-slot-as-is-end
-part-slot-as-is-end c =
+part-end-as-is-end : tie.Need-part-end-as-is-end
+part-end-as-is-end c =
     let inside = inside-of _ _ _ (c .place-of .ensures) in
     omega arith
 
-slot-as-is-requires : tie.Need-slot-as-is-requires
-slot-as-is-requires c κs = search needs
+end-as-is-requires : tie.Need-end-as-is-requires
+end-as-is-requires c κs = search needs
 
 bytes-requires : tie.Need-bytes-requires
 bytes-requires c κs = search needs
@@ -83,28 +53,29 @@ cast-copied c = search needs
 same-length : tie.Need-same-length
 same-length c = search needs
 
-returns-4 : tie.Need-returns-4
-unfolding bytesInSlotAsIs imageWithBody
-returns-4 c =
+returns-2 : tie.Need-returns-2
+unfolding imageWithBody bytesInSlotAsIs
+returns-2 c =
     let called = c .before .before .before .before in
-    let w = called .slot-as-is in
+    let w = called .end-as-is in
     let p = called .before .before .place-of in
     let tested = called .before .before .before .before in
-    let awake = sym (tested .before .waits .ensures) ∙ tested .if3 .left in
-    let a = tested .before .before .before .before .before .before .before .args in
-    let heard = own-heard (a .state) (a .overdrive) (tested .before .before .before .before .if1 .left) in
+    let a = tested .before .before .before .args in
+    let heard = own-heard (a .state) (a .overdrive) (tested .if1 .left) in
+    let last = ends-last (a .overdrive) (a .state) (tested .before .before .before .pre) heard in
     let own = place-has (a .image .now) (a .i) (p .result) (p .ensures) in
     let inside = inside-of _ _ _ (p .ensures) in (
       rw (
-        heard-slot-state (a .state) (a .overdrive) heard awake (a .image .now) (a .i) (a .level),
-        heard-slot-copied (a .state) (a .overdrive) heard awake (a .image .now) (a .i) (a .level),
+        last-state (a .state) (a .overdrive) heard last (a .image .now) (a .i) (a .level),
+        last-copied (a .state) (a .overdrive) heard last (a .image .now) (a .i) (a .level),
+        last-copy (a .state) (a .overdrive) heard last (a .image .now) (a .i) (a .level),
         own .0,
         own .1,
         c .bytes .ensures,
         w .ensures .0,
       ),
       rw (
-        heard-slot-image (a .state) (a .overdrive) heard awake (a .image .now) (a .i) (a .level),
+        last-image (a .state) (a .overdrive) heard last (a .image .now) (a .i) (a .level),
         own .0,
         own .1,
         ← p .ensures,
@@ -119,17 +90,12 @@ slot-spec =
     (tie.spec
     unheard-requires
     returns
-    goes-on-requires
-    shifted-requires
-    returns-2
-    waits-requires
-    returns-3
     place-of-requires
-    sub-slot-as-is
-    part-slot-as-is-start
-    part-slot-as-is-end
-    slot-as-is-requires
+    sub-end-as-is
+    part-end-as-is-start
+    part-end-as-is-end
+    end-as-is-requires
     bytes-requires
     cast-copied
     same-length
-    returns-4)
+    returns-2)

@@ -4,7 +4,7 @@ use borrow.Author.Needs.{needs}
 use Rattle.bus.specs.declared.Event.the-variants.{Reset, Pulse, OverdriveReset}
 use Rattle.bus.specs.Bus.{eventOf}
 use Rattle.bus.specs.Loops.{heardStateAsIs, heardBodyAsIs, heardCopiedAsIs, deviceAtPlace, deviceIn, kindIn, bodyIn}
-use Rattle.bus.proofs.Idle.{other-over, other-pulse, heard-turn}
+use Rattle.bus.proofs.Idle.{other-pulse, heard-turn}
 use Rattle.bus.proofs.turn.Statement.{statement}
 use Rattle.bus.proofs.turn.Tie as tie
 
@@ -26,7 +26,7 @@ returns c =
     let s = c .before .before .before .before .before .before in
     let a = s .args in
     let m = c .before .before .before .before .match in
-    heard-turn (a .byte) (other-over (a .byte) (s .pre .0)) (a .image .now) (a .i) (a .state) (s .pre .1) true Reset
+    heard-turn (a .byte) (s .pre .0) (a .image .now) (a .i) (a .state) (s .pre .1) true Reset
     (ap eventOf (m .keys1)) _ _ (c .before .before .heard-reset .ensures)
 
 same-length-2 : tie.Need-same-length-2
@@ -38,7 +38,7 @@ returns-2 c =
     let s = c .before .before .before .before .before .before in
     let a = s .args in
     let m = c .before .before .before .before .match in
-    heard-turn (a .byte) (other-over (a .byte) (s .pre .0)) (a .image .now) (a .i) (a .state) (s .pre .1) true OverdriveReset
+    heard-turn (a .byte) (s .pre .0) (a .image .now) (a .i) (a .state) (s .pre .1) true OverdriveReset
     (ap eventOf (m .keys2)) _ _ (c .before .before .heard-reset2 .ensures)
 
 same-length-3 : tie.Need-same-length-3
@@ -50,7 +50,7 @@ returns-3 c =
     let s = c .before .before .before .before .before .before in
     let a = s .args in
     let m = c .before .before .before .before .match in
-    heard-turn (a .byte) (other-over (a .byte) (s .pre .0)) (a .image .now) (a .i) (a .state) (s .pre .1) true Pulse
+    heard-turn (a .byte) (s .pre .0) (a .image .now) (a .i) (a .state) (s .pre .1) true Pulse
     (other-pulse (a .byte) (s .pre .0) (m .rest .0 .1) (m .rest .1)) _ _ (c .before .before .heard-pulse .ensures)
 
 pub turn-spec : {M : Type 1} → statement M

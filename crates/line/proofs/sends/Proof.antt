@@ -1,10 +1,8 @@
-use Rattle.line.specs.Transfers.{transferSends}
 use borrow.Author.Needs.{needs}
 use Rattle.line.proofs.sends.Statement.{statement}
 use Rattle.line.proofs.sends.Tie as tie
 
 returns : tie.Need-returns
-unfolding transferSends
 returns c = simp (c .bit-of .ensures)
 
 pub sends-spec : {M : Type 1} → statement M

@@ -10,35 +10,21 @@ goes-on-requires c κs = search needs
 shifted-requires : tie.Need-shifted-requires
 shifted-requires c κs = search needs
 
-stepped-to-requires : tie.Need-stepped-to-requires
-stepped-to-requires c κs = search needs
-
 returns : tie.Need-returns
 unfolding stateAfterSlotAsIs bodyAfterSlotAsIs copyInSlotAsIs transferAfterSlot speedAfterSlot stageWrite stageCopy
-returns c = simp (c .stepped-to .ensures, c .before .shifted .ensures, sym (c .before .before .before .goes-on .ensures) ∙ c .before .before .if1 .taken) (refl, refl)
+returns c = simp (c .shifted .ensures, sym (c .before .before .goes-on .ensures) ∙ c .before .if1 .taken) (refl, refl)
 
-shift-in-requires : tie.Need-shift-in-requires
-shift-in-requires c κs = search needs
-
-stage-end-requires : tie.Need-stage-end-requires
-stage-end-requires c κs = search needs
+end-as-is-requires : tie.Need-end-as-is-requires
+end-as-is-requires c κs = search needs
 
 same-length : tie.Need-same-length
 same-length c = search needs
 
 returns-2 : tie.Need-returns-2
 unfolding stateAfterSlotAsIs bodyAfterSlotAsIs copyInSlotAsIs transferAfterSlot speedAfterSlot stageWrite stageCopy
-returns-2 c = simp (c .before .before .stage-end .ensures .0, c .before .before .stage-end .ensures .1, c .before .before .before .before .shift-in .ensures, sym (c .before .before .before .before .before .before .goes-on .ensures) ∙ c .before .before .before .before .before .if1 .left) (refl, refl)
+returns-2 c = simp (c .before .before .end-as-is .ensures .0, c .before .before .end-as-is .ensures .1, sym (c .before .before .before .before .before .goes-on .ensures) ∙ c .before .before .before .before .if1 .left) (refl, refl)
 
 pub slot-as-is-spec : {M : Type 1} → statement M
 slot-as-is-spec =
     tie.close
-    (tie.spec
-    goes-on-requires
-    shifted-requires
-    stepped-to-requires
-    returns
-    shift-in-requires
-    stage-end-requires
-    same-length
-    returns-2)
+    (tie.spec goes-on-requires shifted-requires returns end-as-is-requires same-length returns-2)
