@@ -1,22 +1,13 @@
--- What the host sees of a run and of a search, from what is had of each; the laws of `countAfter` hold for a judgement
--- too. Assumes nothing.
-use Prim.Native.Nat.{ℕ, zero, suc}
-use mathlib.Core.Path.{_≡_, refl, sym, ap, subst, _∙_}
+-- What the host sees of a run and of a search, from what is had of each. Assumes nothing.
+use Prim.Native.Nat.{ℕ}
+use mathlib.Core.Path.{_≡_, sym, ap, _∙_}
 use mathlib.Core.List.{List}
+use Rattle.image.proofs.Counted.{counted-now, counted-not}
 use Rattle.bus.specs.declared.RunResult.{RunResult}
 use Rattle.bus.specs.Run.{RunOutcome}
 use Rattle.search.specs.declared.Found.{Found}
 use Rattle.search.specs.Found.{SearchOutcome}
-use Rattle.troughiron.specs.Host.{OwnRunLeaves, HostRunLeaves, OwnSearchLeaves, countAfter, HostSearchLeaves}
-
-pub counted-now : (number count before : ℕ) → number ≡ 0 → countAfter number count before ≡ count
-unfolding countAfter
-counted-now number count before e = ap (λ (n : ℕ). countAfter n count before) e
-
-pub counted-not : (number count before : ℕ) → (number ≡ 0 → ⊥) → countAfter number count before ≡ before
-unfolding countAfter
-counted-not zero count before h = absurd (h refl)
-counted-not (suc number) count before h = refl
+use Rattle.troughiron.specs.Host.{OwnRunLeaves, HostRunLeaves, OwnSearchLeaves, HostSearchLeaves}
 
 -- ---- a run
 

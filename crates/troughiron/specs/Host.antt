@@ -1,20 +1,16 @@
 -- Document 01, 'What stands on the bench', and document 02, item 4, are stated here: the host is a C program, whose run
 -- holds 64 line states of its own and reports the bytes copied where it is not refused. That its search holds 64 line
 -- states too is our own choice.
-use Prim.Native.Nat.{ℕ, zero, suc}
+use Prim.Native.Nat.{ℕ}
 use mathlib.Core.Path.{_≡_}
 use mathlib.Core.List.{List}
 use lib.ListN.{replicate}
 use Rattle.device.specs.Device.{waitingState}
+use Rattle.image.specs.Counted.{countAfter}
 use Rattle.bus.specs.declared.RunResult.{RunResult}
 use Rattle.bus.specs.Run.{RunOutcome, runOf}
 use Rattle.search.specs.declared.Found.{Found}
 use Rattle.search.specs.Found.{SearchOutcome, searchOutcomeOf}
-
--- A number is written where a call is not refused, and else stays as it was; judge_call cites it too.
-unfoldable pub countAfter : ℕ → ℕ → ℕ → ℕ
-countAfter zero count before = count
-countAfter (suc number) count before = before
 
 -- Of a run without its line states, what it returns, the image and the answers are left.
 pub record OwnRunLeaves (left : RunOutcome) (result : RunResult) (image answers : List ℕ) : Type 0 where
