@@ -2,9 +2,9 @@
 use Prim.Native.Nat.{ℕ}
 use mathlib.Core.Path.{_≡_, sym, ap, _∙_}
 use mathlib.Core.List.{List}
+use Rattle.image.proofs.Counted.{counted-now, counted-not}
 use Rattle.judge.specs.declared.Verdict.{Verdict}
 use Rattle.judge.specs.Judge.{refusalOf, ruleOf, brokenAt, JudgeOutcome}
-use Rattle.troughiron.proofs.Laws.{counted-now, counted-not}
 use Rattle.judge_call.specs.Host.{OwnJudgeLeaves, HostJudgeLeaves}
 
 module _ (left : JudgeOutcome) (rule event : ℕ) (verdict : Verdict) (work : List ℕ) (judges : OwnJudgeLeaves left verdict work)

@@ -5,9 +5,9 @@ use mathlib.Core.Path.{_≡_}
 use mathlib.Core.List.{List}
 use lib.ListN.{replicate}
 use Rattle.device.specs.Device.{waitingState}
+use Rattle.image.specs.Counted.{countAfter}
 use Rattle.judge.specs.declared.Verdict.{Verdict}
 use Rattle.judge.specs.Judge.{refusalOf, ruleOf, brokenAt, JudgeOutcome, judgeOf}
-use Rattle.troughiron.specs.Host.{countAfter}
 
 -- Of a judgement without its line states, the verdict and the work space are left.
 pub record OwnJudgeLeaves (left : JudgeOutcome) (verdict : Verdict) (work : List ℕ) : Type 0 where

@@ -1,24 +1,11 @@
--- What the host sees of a run and of a search, from what is had of each; the laws of `countAfter` hold for a judgement
--- too. Assumes nothing.
-use Prim.Native.Nat.{ℕ, zero, suc}
-use mathlib.Core.Path.{_≡_, refl, sym, ap, subst, _∙_}
+-- What the host sees of a run, from what is had of it. Assumes nothing.
+use Prim.Native.Nat.{ℕ}
+use mathlib.Core.Path.{_≡_, sym, ap, _∙_}
 use mathlib.Core.List.{List}
+use Rattle.image.proofs.Counted.{counted-now, counted-not}
 use Rattle.bus.specs.declared.RunResult.{RunResult}
 use Rattle.bus.specs.Run.{RunOutcome}
-use Rattle.search.specs.declared.Found.{Found}
-use Rattle.search.specs.Found.{SearchOutcome}
-use Rattle.troughiron.specs.Host.{OwnRunLeaves, HostRunLeaves, OwnSearchLeaves, countAfter, HostSearchLeaves}
-
-pub counted-now : (number count before : ℕ) → number ≡ 0 → countAfter number count before ≡ count
-unfolding countAfter
-counted-now number count before e = ap (λ (n : ℕ). countAfter n count before) e
-
-pub counted-not : (number count before : ℕ) → (number ≡ 0 → ⊥) → countAfter number count before ≡ before
-unfolding countAfter
-counted-not zero count before h = absurd (h refl)
-counted-not (suc number) count before h = refl
-
--- ---- a run
+use Rattle.troughiron.specs.Host.{OwnRunLeaves, HostRunLeaves}
 
 module _ (left : RunOutcome) (copied : ℕ) (result : RunResult) (image answers : List ℕ)
     (leaves : OwnRunLeaves left result image answers) where
@@ -42,32 +29,4 @@ module _ (left : RunOutcome) (copied : ℕ) (result : RunResult) (image answers 
     image-is = leaves .image-is;
     answers-are = leaves .answers-are;
     copied-is = sym (counted-not (left .result .number) (left .result .copied) copied (λ z. h (sym same-number ∙ z)));
-  }
-
--- ---- a search
-
-module _ (left : SearchOutcome) (passes resets slots : ℕ) (found : Found) (codes trace : List ℕ) (finds : OwnSearchLeaves left found codes trace) where
-  same : left .found .number ≡ found .number
-  same = ap (λ (f : Found). f .number) (sym (finds .found-is))
-
-  -- not refused: the counts are written
-  pub sees-counts : found .number ≡ 0 → HostSearchLeaves left passes resets slots (found .number) codes trace (found .passes) (found .resets) (found .slots)
-  sees-counts e = record {
-    number-is = sym same;
-    codes-are = finds .codes-are;
-    trace-is = finds .trace-is;
-    passes-are = ap (λ (f : Found). f .passes) (finds .found-is) ∙ sym (counted-now (left .found .number) (left .found .passes) passes (same ∙ e));
-    resets-are = ap (λ (f : Found). f .resets) (finds .found-is) ∙ sym (counted-now (left .found .number) (left .found .resets) resets (same ∙ e));
-    slots-are = ap (λ (f : Found). f .slots) (finds .found-is) ∙ sym (counted-now (left .found .number) (left .found .slots) slots (same ∙ e));
-  }
-
-  -- refused: they are not
-  pub sees-none : (found .number ≡ 0 → ⊥) → HostSearchLeaves left passes resets slots (found .number) codes trace passes resets slots
-  sees-none h = record {
-    number-is = sym same;
-    codes-are = finds .codes-are;
-    trace-is = finds .trace-is;
-    passes-are = sym (counted-not (left .found .number) (left .found .passes) passes (λ z. h (sym same ∙ z)));
-    resets-are = sym (counted-not (left .found .number) (left .found .resets) resets (λ z. h (sym same ∙ z)));
-    slots-are = sym (counted-not (left .found .number) (left .found .slots) slots (λ z. h (sym same ∙ z)));
   }

@@ -1,15 +1,12 @@
-// This crate is what a C program calls, on numbers and byte slices, but for the judge, whose call is in `judge_call`.
+// This crate is what a C program calls, on numbers and byte slices, but for the search and the judge, whose calls are
+// in `search_call` and `judge_call`.
 use bus::RunResult;
 use device::LineState;
 use image::ACCEPTED;
-use search::Found;
 ghost use mathlib.Core.Path.{_≡_};
 ghost use mathlib.Core.Bool.{cond};
 ghost use Rattle.bits.specs.Crc.{registrationCheck};
-ghost use Rattle.search_laws.specs.Search.{searchOf};
-ghost use Rattle.search_laws.specs.Searched.{Searched};
 ghost use Rattle.troughiron.specs.Host.{OwnRunLeaves, HostRunLeaves, hostRun};
-ghost use Rattle.troughiron.specs.Host.{OwnSearchLeaves, HostSearchLeaves, hostSearch};
 
 // The run has 64 line states of its own, as an image has at most 64 devices.
 fn run_own(image: &mut [u8], trace: &[u8], answers: &mut [u8]) -> RunResult
@@ -38,42 +35,6 @@ pub extern "C" fn troughiron_run(
         *copied = result.copied;
     }
     refusal
-}
-
-// The search has 64 line states of its own, as an image has at most 64 devices.
-fn search_own(image: &[u8], codes: &mut [u8], trace: &mut [u8]) -> Found
-    ensures { λ r. ⌜ OwnSearchLeaves (hostSearch (now (image .entry)) (now (codes .entry)) (now (trace .entry))) r
-        (now (codes .exit)) (now (trace .exit))
-        × (r .number ≡ 0 → Searched (now (image .entry)) (searchOf (now (image .entry)))) ⌝ }
-{
-    let waiting = LineState::waiting();
-    let mut lines = [waiting; 64];
-    search::search(image, codes, trace, &mut lines)
-}
-
-// The search writes the numbers of passes, resets and slots only where it is not refused.
-#[no_mangle]
-pub extern "C" fn troughiron_search(
-    image: &[u8],
-    codes: &mut [u8],
-    trace: &mut [u8],
-    passes: &mut u64,
-    resets: &mut u64,
-    slots: &mut u64,
-) -> u32
-    ensures { λ r. ⌜ HostSearchLeaves (hostSearch (now (image .entry)) (now (codes .entry)) (now (trace .entry)))
-        (now (passes .entry)) (now (resets .entry)) (now (slots .entry)) r (now (codes .exit)) (now (trace .exit))
-        (now (passes .exit)) (now (resets .exit)) (now (slots .exit))
-        × (r ≡ 0 → Searched (now (image .entry)) (searchOf (now (image .entry)))) ⌝ }
-{
-    let found = search_own(image, codes, trace);
-    let number = found.number;
-    if number == ACCEPTED {
-        *passes = found.passes;
-        *resets = found.resets;
-        *slots = found.slots;
-    }
-    number
 }
 
 // The registration check returns 1 for yes and 0 for no.

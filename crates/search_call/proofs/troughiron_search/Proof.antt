@@ -1,7 +1,7 @@
 use borrow.Author.Needs.{needs}
-use Rattle.troughiron.proofs.Laws.{sees-counts, sees-none}
-use Rattle.troughiron.proofs.troughiron_search.Statement.{statement}
-use Rattle.troughiron.proofs.troughiron_search.Tie as tie
+use Rattle.search_call.proofs.Laws.{sees-counts, sees-none}
+use Rattle.search_call.proofs.troughiron_search.Statement.{statement}
+use Rattle.search_call.proofs.troughiron_search.Tie as tie
 
 returns : tie.Need-returns
 returns c =

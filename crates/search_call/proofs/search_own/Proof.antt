@@ -1,4 +1,4 @@
--- `troughiron::search_own` meets its contract: a walk of its MIR. Its own array of 64 line states is made waiting and
+-- `search_call::search_own` meets its contract: a walk of its MIR. Its own array of 64 line states is made waiting and
 -- lent to `search::search`, with the codes and the trace, each for a lifetime of the call; the image is passed as a
 -- copy.
 -- All that it knows of its callees is that each meets its contract.
@@ -18,7 +18,7 @@ use Rattle.search_laws.specs.Searched.{Searched}
 use Rattle.search.specs.declared.Found.{Found}
 use Rattle.search.specs.Found.{SearchOutcome, SearchLeaves, searchOutcomeOf}
 use Rattle.search.proofs.Shapes.{found, search-shape}
-use Rattle.troughiron.specs.Host.{OwnSearchLeaves, hostSearch}
+use Rattle.search_call.specs.Host.{OwnSearchLeaves, hostSearch}
 use Rattle.device.proofs.LineState.waiting as waiting
 use Rattle.device.proofs.LineState.waiting.Symbol as waiting-def
 use Rattle.device.proofs.LineState.waiting.Symbol.{name as #device·waiting}
@@ -27,10 +27,10 @@ use Rattle.search.proofs.search as search′
 use Rattle.search.proofs.search.Symbol as search-def
 use Rattle.search.proofs.search.Symbol.{name as #search·search}
 use Rattle.search.proofs.search.Met as search-thm
-use Rattle.troughiron.proofs.search_own.Key.{name as #troughiron·search-own}
-use Rattle.troughiron.proofs.search_own as search-own
-use Rattle.troughiron.proofs.search_own.Statement as stated
-use Rattle.troughiron.proofs.search_own.Code as code
+use Rattle.search_call.proofs.search_own.Key.{name as #search_call·search-own}
+use Rattle.search_call.proofs.search_own as search-own
+use Rattle.search_call.proofs.search_own.Statement as stated
+use Rattle.search_call.proofs.search_own.Code as code
 
 abbrev shape : Shape
 shape = record { lifetimes = 3; outlives = []; kinds = shrK 0 tt u8 ∷ mutK 1 tt u8 ∷ mutK 2 tt u8 ∷ []; gives = found }
@@ -111,7 +111,7 @@ pub search-own-spec : {M : Type 1} → stated.statement M
 unfolding code.routine tablesOf
 search-own-spec 𝓤 H 𝓜 𝓖 𝓡 =
     proved 𝓤 H shape (𝓖 .A) (givenOf 𝓤 H 𝓜 𝓖) (search-own.clauses 𝓤 H (𝓖 .A) (𝓜 .mem) (𝓡 .run)) (λ κs a. Unit {0})
-    𝓜 𝓡 code.env #troughiron·search-own code.function (code.unfolded 𝓤 H 𝓜 𝓡) (λ κs a g. factI 𝓤 (Unit {0}) (emp 𝓤) tt)
+    𝓜 𝓡 code.env #search_call·search-own code.function (code.unfolded 𝓤 H 𝓜 𝓡) (λ κs a g. factI 𝓤 (Unit {0}) (emp 𝓤) tt)
     (λ κs qs bounds a g. walk 𝓤 H (𝓖 .A) (givenOf 𝓤 H 𝓜 𝓖) (𝓜 .mem) (𝓡 .run) (tablesOf 𝓤 H 𝓜 (tables 𝓤 H 𝓜 𝓡 code.env))
     (cited 𝓤 H _ 𝓜 𝓡 code.env #device·waiting waiting-def.routine code.calls-device·LineState·waiting
     (waiting-thm.met 𝓤 H 𝓜 𝓖 𝓡))
