@@ -3,25 +3,23 @@
 -- sends in a slot has no part in a device's turn, nor has the level of a reset or a pulse. Assumes nothing.
 use Prim.Native.Nat.{ℕ, zero, suc, _+_, _-_, _<_, _≤_}
 use mathlib.Core.Path.{_≡_, refl, sym, ap, _∙_}
-use mathlib.Core.Bool.{Bool, true, false, not, cond, _&&_, _||_, Bool·beq, true≢false}
+use mathlib.Core.Bool.{Bool, true, false, not, cond, _&&_, _||_, Bool·beq, and-false, true≢false}
 use mathlib.Core.List.{List, [], _∷_, _++_}
 use native.Mathlib.Omega.{arith}
 use lib.ListN.{length, set, take, drop, take-append-drop}
 use lib.Seq.{drop-drop}
 use lib.Dec.{ltb, eqb}
 use borrow.Author.Tests.{ltb-true, lt-ltb, le-ltb, ne-eqb, eqb-true, not-true}
-use Rattle.line.specs.Transfers.{goesOn, lastSlot, received, shifted}
+use Rattle.line.specs.Transfers.{goesOn, lastSlot, shifted}
 use Rattle.device.specs.declared.LineState.{LineState}
-use Rattle.device.specs.Device.{lineState, waitingState, stateAfterSlotAsIs, bodyAfterSlotAsIs, bytesInSlotAsIs, copyInSlotAsIs}
-use Rattle.device.specs.Device.{stageNext, stageSpeed, stageWrite, stageCopy}
+use Rattle.device.specs.Device.{lineState, waitingState, stateAfterSlotAsIs, bodyAfterSlotAsIs, bytesInSlotAsIs}
 use Rattle.device.proofs.Range.{still-steps, still-writes, still-copies}
-use Rattle.device.proofs.Laws.{going-on-steps, going-on-writes, ending-steps, ending-writes, ending-copies}
-use Rattle.device.proofs.Laws.{going-on-copies}
+use Rattle.device.proofs.Laws.{going-on-steps, going-on-writes, going-on-copies}
 use Rattle.bus.specs.declared.Event.{Event}
 use Rattle.bus.specs.declared.Event.the-variants.{Slot, Reset, Pulse, OverdriveSlot, OverdriveReset}
 use Rattle.bus.specs.declared.Place.{Place}
 use Rattle.bus.specs.declared.SlotTurn.{SlotTurn}
-use Rattle.bus.specs.Bus.{Device, eventOf, takenState, hears, heardState, heardBody, unheardState, heardCopied, nextState, nextBody, copiedIn, isSlot, isOverdrive}
+use Rattle.bus.specs.Bus.{Device, eventOf, hears, heardState, heardBody, unheardState, heardCopied, nextState, nextBody, copiedIn, isSlot, isOverdrive}
 use Rattle.bus.specs.Loops.{heardStateAsIs, heardBodyAsIs, heardCopiedAsIs, slotByte, kindIn, bodyIn, endsIn, shiftsIn, passState}
 use Rattle.bus.specs.Loops.{nextStateAsIs, nextBodyAsIs, passedOver, placeIn, deviceAtPlace, deviceIn, imageWithBody, turnState, turnImage}
 use Rattle.bus.specs.Loops.{slotTurn, copiedAsIs, turnCopied, mostCopied, addedTo, copiedUpTo}
@@ -44,10 +42,6 @@ same-body image place h =
     (ap (λ (m : ℕ). drop m image) (sym e) ∙ sym (drop-drop n (place .start) image))
     ∙ ap (λ (l : List ℕ). take (place .start) image ++ l) (take-append-drop n (drop (place .start) image))
     ∙ take-append-drop (place .start) image
-
-never : (b : Bool) → (b && false) ≡ false
-never true = refl
-never false = refl
 
 -- ---- a device in range that is passed over
 
@@ -111,7 +105,7 @@ module _ (byte : ℕ) (d : Device) (ranged : InRange d) (idle : passedOver byte 
 deaf-not-passed : (byte : ℕ) (state : LineState) → hears (eventOf byte) state ≡ false → passedOver byte state ≡ false
 unfolding passedOver
 deaf-not-passed byte state deaf =
-    ap (λ (b : Bool). isSlot (eventOf byte) && (b && eqb (state .transfer .left) 0)) deaf ∙ never (isSlot (eventOf byte))
+    ap (λ (b : Bool). isSlot (eventOf byte) && (b && eqb (state .transfer .left) 0)) deaf ∙ and-false (isSlot (eventOf byte))
 
 other-not-passed : (byte : ℕ) (state : LineState) → isSlot (eventOf byte) ≡ false → passedOver byte state ≡ false
 unfolding passedOver
@@ -122,7 +116,7 @@ busy-not-passed : (byte : ℕ) (state : LineState) → eqb (state .transfer .lef
 unfolding passedOver
 busy-not-passed byte state busy =
     ap (λ (b : Bool). isSlot (eventOf byte) && (hears (eventOf byte) state && b)) busy
-    ∙ ap (λ (b : Bool). isSlot (eventOf byte) && b) (never (hears (eventOf byte) state)) ∙ never (isSlot (eventOf byte))
+    ∙ ap (λ (b : Bool). isSlot (eventOf byte) && b) (and-false (hears (eventOf byte) state)) ∙ and-false (isSlot (eventOf byte))
 
 -- ---- an event that is not a regular slot
 
@@ -261,34 +255,6 @@ module _ (state : LineState) (overdrive : Bool) (heard : hears (eventOf (slotByt
   unfolding turnCopied copiedAsIs deviceIn deviceAtPlace kindIn bodyIn
   heard-slot-copied = rw (not-passed, heard) (taken-copied overdrive level (deviceIn image i state))
 
--- in the last slot of its transfer
-module _ (state : LineState) (overdrive : Bool) (heard : hears (eventOf (slotByte overdrive)) state ≡ true)
-    (last : lastSlot (state .transfer) ≡ true) (image : List ℕ) (i : ℕ) (level : Bool) where
-  some-left : eqb (state .transfer .left) 0 ≡ false
-  some-left = ap (λ (n : ℕ). eqb n 0) (eqb-true (state .transfer .left) 1 last)
-
-  none-follow : goesOn (state .transfer) ≡ false
-  none-follow = ap (λ (n : ℕ). ltb 1 n) (eqb-true (state .transfer .left) 1 last)
-
-  pub last-state : turnState image i state (slotByte overdrive) level
-      ≡ lineState (stageNext (state .transfer .stage) (kindIn image i) (state .overdrive) (received (state .transfer) level) (bodyIn image i) level)
-      (stageSpeed (state .transfer .stage) (kindIn image i) (state .overdrive) (received (state .transfer) level) (bodyIn image i) level)
-  last-state = heard-slot-state state overdrive heard some-left image i level ∙ ending-steps state (kindIn image i) (bodyIn image i) level none-follow
-
-  pub last-image : turnImage image i state (slotByte overdrive) level
-      ≡ imageWithBody image (placeIn image i)
-      (stageWrite (state .transfer .stage) (kindIn image i) (received (state .transfer) level) (bodyIn image i) level)
-  last-image =
-      heard-slot-image state overdrive heard some-left image i level
-      ∙ ap (imageWithBody image (placeIn image i)) (ending-writes state (kindIn image i) (bodyIn image i) level none-follow)
-
-  pub last-copied : turnCopied image i state (slotByte overdrive) level ≡ bytesInSlotAsIs state (kindIn image i) (bodyIn image i) level
-  last-copied = heard-slot-copied state overdrive heard some-left image i level
-
-  pub last-copy : copyInSlotAsIs state (kindIn image i) (bodyIn image i) level
-      ≡ stageCopy (state .transfer .stage) (kindIn image i) (received (state .transfer) level) (bodyIn image i)
-  last-copy = ending-copies state (kindIn image i) (bodyIn image i) level none-follow
-
 -- inside a transfer
 module _ (state : LineState) (overdrive : Bool) (heard : hears (eventOf (slotByte overdrive)) state ≡ true)
     (inside : goesOn (state .transfer) ≡ true) (image : List ℕ) (i : ℕ) (level : Bool) where
@@ -342,6 +308,9 @@ data Passes (overdrive : Bool) (state : LineState) : Type 0 where
   is-none : hears (eventOf (slotByte overdrive)) state ≡ true → eqb (state .transfer .left) 0 ≡ true
       → ((level : Bool) → passState overdrive level state ≡ state) → Passes overdrive state
 
+one-left : (left : ℕ) → eqb left 1 ≡ true → eqb left 0 ≡ false
+one-left left e = ap (λ (n : ℕ). eqb n 0) (eqb-true left 1 e)
+
 nothing-left : (left : ℕ) → ltb 1 left ≡ false → eqb left 1 ≡ false → eqb left 0 ≡ true
 nothing-left zero e f = refl
 nothing-left (suc zero) e f = absurd (true≢false f)
@@ -389,13 +358,22 @@ module _ (overdrive level : Bool) (image : List ℕ) (i : ℕ) (state : LineStat
   pub pass-copied : endsIn overdrive state ≡ false → turnCopied image i state (slotByte overdrive) level ≡ 0
   pass-copied e = by-pass-copied (passes overdrive (state .overdrive) state refl e)
 
--- one that hears it where more happens is in the last slot of its transfer
-pub ends-last : (overdrive : Bool) (state : LineState) → endsIn overdrive state ≡ true → hears (eventOf (slotByte overdrive)) state ≡ true
-    → lastSlot (state .transfer) ≡ true
+-- ---- a slot in which more happens
+
+-- one that hears it has slots left of its transfer
+pub ends-busy : (overdrive : Bool) (state : LineState) → endsIn overdrive state ≡ true → hears (eventOf (slotByte overdrive)) state ≡ true
+    → eqb (state .transfer .left) 0 ≡ false
 unfolding endsIn slotByte eventOf hears
-ends-last true state e h = both (state .overdrive) (lastSlot (state .transfer)) e .1
-ends-last false state e h =
-    ap (λ (b : Bool). b || lastSlot (state .transfer)) (sym (not-true (state .overdrive) h)) ∙ e
+ends-busy true state e h = one-left (state .transfer .left) (both (state .overdrive) (lastSlot (state .transfer)) e .1)
+ends-busy false state e h =
+    one-left (state .transfer .left) (ap (λ (b : Bool). b || lastSlot (state .transfer)) (sym (not-true (state .overdrive) h)) ∙ e)
+
+-- one that does not hear it is at overdrive, and waits from then on
+pub ends-lost : (overdrive : Bool) (state : LineState) → endsIn overdrive state ≡ true → hears (eventOf (slotByte overdrive)) state ≡ false
+    → waitingState ≡ unheardState (eventOf (slotByte overdrive)) state
+unfolding endsIn slotByte eventOf hears unheardState
+ends-lost true state e h = absurd (true≢false (sym (both (state .overdrive) (lastSlot (state .transfer)) e .0) ∙ h))
+ends-lost false state e h = refl
 
 -- ---- what has no part in a device's turn
 

@@ -1,15 +1,17 @@
 -- The devices that a slot only shifts or passes over, up to the first to which more happens: how many they are, and that
 -- their turns are those of `turnsUpTo`. Assumes nothing.
 use Prim.Native.Nat.{ℕ, zero, suc, _+_, _-_, _<_, _≤_}
-use mathlib.Core.Path.{_≡_, refl, ap, subst, _∙_}
-use mathlib.Core.Bool.{Bool, true, false, cond}
+use mathlib.Core.Path.{_≡_, refl, sym, ap, subst, _∙_}
+use mathlib.Core.Bool.{Bool, true, false, not, cond, and-false, true≢false}
 use mathlib.Core.List.{List, [], _∷_}
 use native.Mathlib.Omega.{arith}
 use lib.ListN.{length, set, length-set}
+use lib.Dec.{eqb, ltb}
+use borrow.Author.Tests.{ne-eqb, lt-ltb}
 use Rattle.line.specs.Transfers.{shifted}
 use Rattle.device.specs.declared.LineState.{LineState}
-use Rattle.device.specs.Device.{lineState}
-use Rattle.bus.specs.Loops.{slotByte, endsIn, shiftsIn, passState, passesFrom, shiftedFrom, lineAt, BusState, busState, turnState, turnImage}
+use Rattle.device.specs.Device.{lineState, waits}
+use Rattle.bus.specs.Loops.{slotByte, movesIn, endsIn, shiftsIn, passState, passesFrom, shiftedFrom, lineAt, BusState, busState, turnState, turnImage}
 use Rattle.bus.specs.Loops.{turnAt, turnsUpTo, turnCopied, copiedUpTo, addedTo}
 use Rattle.bus.proofs.Idle.{pass-state, pass-image, pass-copied, added-none}
 use Rattle.bus.proofs.States.{steps}
@@ -24,6 +26,57 @@ pass-on f t l e = rw e
 pub pass-still : (f t : Bool) (l : LineState) → shiftsIn f l ≡ false → passState f t l ≡ l
 unfolding passState
 pass-still f t l e = rw e
+
+-- one to which the slot does nothing it neither shifts nor does more to
+still-so : (f v : Bool) (n : ℕ) (l : LineState) → l .overdrive ≡ v → l .transfer .left ≡ n → movesIn f l ≡ false
+    → (endsIn f l ≡ false) × (shiftsIn f l ≡ false)
+unfolding movesIn waits endsIn shiftsIn
+still-so true true zero l o e s = (rw (o, e), rw (o, e))
+still-so true true (suc n) l o e s =
+    let moves : movesIn true l ≡ true = rw (o, e, ne-eqb (suc n) 0 (λ z. absurd (omega arith))) in
+    absurd (true≢false (sym moves ∙ s))
+still-so true false n l o e s = (rw o, rw o)
+still-so false true n l o e s =
+    let moves : movesIn false l ≡ true = rw (o, e) (ap not (and-false (eqb n 0))) in
+    absurd (true≢false (sym moves ∙ s))
+still-so false false zero l o e s = (rw (o, e), rw (o, e))
+still-so false false (suc n) l o e s =
+    let moves : movesIn false l ≡ true = rw (o, e, ne-eqb (suc n) 0 (λ z. absurd (omega arith))) in
+    absurd (true≢false (sym moves ∙ s))
+
+pub still-whole : (f : Bool) (l : LineState) → movesIn f l ≡ false → endsIn f l ≡ false
+still-whole f l s = still-so f (l .overdrive) (l .transfer .left) l refl refl s .0
+
+pub still-kept : (f : Bool) (l : LineState) → movesIn f l ≡ false → shiftsIn f l ≡ false
+still-kept f l s = still-so f (l .overdrive) (l .transfer .left) l refl refl s .1
+
+-- one to which it does something, and no more than a shift, it shifts
+shifts-so : (f v : Bool) (n : ℕ) (l : LineState) → l .overdrive ≡ v → l .transfer .left ≡ n → movesIn f l ≡ true → endsIn f l ≡ false
+    → shiftsIn f l ≡ true
+unfolding movesIn waits endsIn shiftsIn
+shifts-so true true zero l o e s w =
+    let still : movesIn true l ≡ false = rw (o, e) in
+    absurd (true≢false (sym s ∙ still))
+shifts-so true true (suc zero) l o e s w =
+    let more : endsIn true l ≡ true = rw (o, e) in
+    absurd (true≢false (sym more ∙ w))
+shifts-so true true (suc (suc n)) l o e s w = rw (o, e, lt-ltb 1 (suc (suc n)) (omega arith))
+shifts-so true false n l o e s w =
+    let still : movesIn true l ≡ false = rw o in
+    absurd (true≢false (sym s ∙ still))
+shifts-so false true n l o e s w =
+    let more : endsIn false l ≡ true = rw o in
+    absurd (true≢false (sym more ∙ w))
+shifts-so false false zero l o e s w =
+    let still : movesIn false l ≡ false = rw (o, e) in
+    absurd (true≢false (sym s ∙ still))
+shifts-so false false (suc zero) l o e s w =
+    let more : endsIn false l ≡ true = rw (o, e) in
+    absurd (true≢false (sym more ∙ w))
+shifts-so false false (suc (suc n)) l o e s w = rw (o, e, lt-ltb 1 (suc (suc n)) (omega arith))
+
+pub moved-shifts : (f : Bool) (l : LineState) → movesIn f l ≡ true → endsIn f l ≡ false → shiftsIn f l ≡ true
+moved-shifts f l s w = shifts-so f (l .overdrive) (l .transfer .left) l refl refl s w
 
 -- ---- how many they are
 

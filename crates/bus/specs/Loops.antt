@@ -13,7 +13,7 @@ use Rattle.kind.specs.Kind.{bodySize}
 use Rattle.image.specs.Image.{countOf, kindAt, offsetAt}
 use Rattle.device.specs.declared.LineState.{LineState}
 use Rattle.line.specs.Transfers.{goesOn, lastSlot, shifted}
-use Rattle.device.specs.Device.{lineState, waitingState, resetAt, resetState, sendsAsIs, stateAfterSlotAsIs}
+use Rattle.device.specs.Device.{lineState, waitingState, waits, resetAt, resetState, sendsAsIs, stateAfterSlotAsIs}
 use Rattle.device.specs.Device.{bodyAfterSlotAsIs}
 use Rattle.device.specs.Device.{bodyAfterResetAsIs, stateAfterPulseAsIs, bodyAfterPulseAsIs, bytesInSlotAsIs}
 use Rattle.bus.specs.declared.Event.{Event}
@@ -67,6 +67,13 @@ slotByte overdrive = cond overdrive 5 1
 unfoldable pub passedOver : ℕ → LineState → Bool
 passedOver byte state =
     isSlot (eventOf byte) && (hears (eventOf byte) state && eqb (state .transfer .left) 0)
+
+-- A slot does nothing to a device at its own speed that has no transfer under way, and a slot at overdrive nothing to
+-- one at regular speed, which does not hear it. To any other it does something: a regular slot makes a device at
+-- overdrive wait.
+unfoldable pub movesIn : Bool → LineState → Bool
+movesIn true state = state .overdrive && not (eqb (state .transfer .left) 0)
+movesIn false state = not (waits state)
 
 -- In a slot more happens than a shift to a device whose transfer ends in it, and to one that a regular slot finds at
 -- overdrive.

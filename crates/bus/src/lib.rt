@@ -14,12 +14,12 @@ ghost use lib.Dec.{eqb, ltb};
 ghost use Rattle.image.specs.Image.{countOf, kindAt};
 ghost use Rattle.image.specs.Refusal.{someBelow};
 ghost use Rattle.kind.specs.Kind.{isEprom};
-ghost use Rattle.bus.specs.Bus.{eventOf, hears, masterHigh, unheardState, isSlot, isOverdrive};
+ghost use Rattle.bus.specs.Bus.{eventOf, hears, masterHigh, isSlot, isOverdrive};
 ghost use Rattle.bus.specs.Refusal.{someByte, badTrace, noFirstReset, badPulse, noRunRoom};
 ghost use Rattle.bus.specs.Refusal.{runRefusal};
 ghost use Rattle.bus.specs.Run.{RunLeaves, runOf, runResult};
 ghost use Rattle.bus.specs.Loops.{placeIn, askedOf, goesOnAt, scanWhere, turnState, turnImage, leavesHigh};
-ghost use Rattle.bus.specs.Loops.{slotByte, imageWithBody, bodyIn, endsIn, shiftsIn, passesFrom, shiftedFrom};
+ghost use Rattle.bus.specs.Loops.{slotByte, imageWithBody, bodyIn, movesIn, endsIn, passesFrom, shiftedFrom};
 ghost use Rattle.bus.specs.Loops.{turnCopied, slotTurn, addedTo, copiedUpTo, copiedOn, eventResult};
 ghost use Rattle.bus.specs.Loops.{copiedByEvents};
 ghost use Rattle.bus.specs.Loops.{fewerOf, scanOn, stepOn};
@@ -123,7 +123,8 @@ fn is_overdrive(byte: u8) -> bool
 }
 
 // In an event a device leaves the line high if it does not hear it, or if it answers with a 1: in a slot it answers
-// with what it sends, and in a reset with its presence, a 0.
+// with what it sends, and in a reset with its presence, a 0. In a regular slot most devices send a 1, so that this is
+// asked first, and of most devices nothing else.
 fn leaves_high(byte: u8, state: LineState) -> bool
     ensures { λ r. ⌜ r ≡ leavesHigh (eventOf byte) state ⌝ }
 {
@@ -131,7 +132,10 @@ fn leaves_high(byte: u8, state: LineState) -> bool
         if is_overdrive(byte) {
             return !state.overdrive | state.sends_as_is();
         }
-        return state.overdrive | state.sends_as_is();
+        if state.sends_as_is() {
+            return true;
+        }
+        return state.overdrive;
     }
     match byte {
         2 => false,
@@ -229,16 +233,16 @@ fn heard_pulse(image: &mut [u8], i: usize, state: LineState) -> SlotTurn
     SlotTurn { next, copied: 0 }
 }
 
-// A slot that a device does not hear, as it comes at the other speed, leaves it in this line state: after an overdrive
-// slot it is as it was, and after a regular slot a device at overdrive waits at regular speed.
-fn unheard(state: LineState, overdrive: bool) -> LineState
-    ensures { λ r. ⌜ r ≡ unheardState (eventOf (slotByte overdrive)) state ⌝ }
+// A slot does nothing to a device at its own speed that has no transfer under way, and a slot at overdrive nothing to
+// one at regular speed, which does not hear it. To any other it does something: a regular slot makes a device at
+// overdrive wait.
+fn moves_in(state: LineState, overdrive: bool) -> bool
+    ensures { λ r. ⌜ r ≡ movesIn overdrive state ⌝ }
 {
     if overdrive {
-        state
-    } else {
-        LineState::waiting()
+        return state.overdrive & (state.transfer.left != 0);
     }
+    !state.waits()
 }
 
 // A slot does more to a device than shift its register where it is the last of the device's transfer, or where it comes
@@ -247,21 +251,15 @@ fn ends_in(state: LineState, overdrive: bool) -> bool
     ensures { λ r. ⌜ r ≡ endsIn overdrive state ⌝ }
 {
     if !overdrive {
-        return state.is_at_overdrive() | state.is_last();
+        return state.overdrive | state.is_last();
     }
-    state.is_at_overdrive() & state.is_last()
-}
-
-// A slot shifts the register of a device at its speed that is inside a transfer.
-fn shifts_in(state: LineState, overdrive: bool) -> bool
-    ensures { λ r. ⌜ r ≡ shiftsIn overdrive state ⌝ }
-{
-    (state.is_at_overdrive() == overdrive) & state.goes_on()
+    state.overdrive & state.is_last()
 }
 
 // This is device i's part in a slot at a level that is the last of its transfer, or that comes at regular speed and
-// finds it at overdrive, where `overdrive` tells at which speed the slot comes. No other slot of a run looks for a
-// body. A run's line states are in range from the first event on (proofs/Ranges.antt), so that no range is tested.
+// finds it at overdrive, where `overdrive` tells at which speed the slot comes: a device that a regular slot finds at
+// overdrive waits from then on, and any other takes its step. No other slot of a run looks for a body. A run's line
+// states are in range from the first event on (proofs/Ranges.antt), so that no range is tested.
 fn slot(image: &mut [u8], i: usize, state: LineState, overdrive: bool, level: bool) -> SlotTurn
     requires { ⌜ endsIn overdrive state ≡ true ⌝ }
     ensures { λ r. ⌜ (r ≡ slotTurn (turnState (now (image .entry)) i state (slotByte overdrive) level)
@@ -269,14 +267,14 @@ fn slot(image: &mut [u8], i: usize, state: LineState, overdrive: bool, level: bo
         × (now (image .exit) ≡ turnImage (now (image .entry)) i state (slotByte overdrive) level) ⌝ }
 {
     if state.overdrive != overdrive {
-        let next = unheard(state, overdrive);
+        let next = LineState::waiting();
         return SlotTurn { next, copied: 0 };
     }
     let place = place_of(image, i);
     let kind = place.kind;
     let start = place.start;
     let end = place.end;
-    let stepped = state.end_as_is(kind, &mut image[start..end], level);
+    let stepped = state.slot_as_is(kind, &mut image[start..end], level);
     let next = stepped.next;
     let copied = stepped.bytes() as u64;
     SlotTurn { next, copied }
@@ -348,13 +346,13 @@ fn read_slot(image: &[u8], i: usize, state: LineState, overdrive: bool, level: b
     ensures { λ r. ⌜ r ≡ turnState (now (image .entry)) i state (slotByte overdrive) level ⌝ }
 {
     if state.overdrive != overdrive {
-        return unheard(state, overdrive);
+        return LineState::waiting();
     }
     let place = place_of(image, i);
     let kind = place.kind;
     let start = place.start;
     let end = place.end;
-    state.ended_as_is(kind, &image[start..end], level)
+    state.step_as_is(kind, &image[start..end], level)
 }
 
 // This is device i's part in a reset or a program pulse that it hears. No slot comes here, so that an event that is not
@@ -553,10 +551,10 @@ fn shift_all(lines: &mut [LineState], from: usize, n: usize, overdrive: bool, le
     let mut i: usize = from;
     while i < n {
         let state = lines[i];
-        if ends_in(state, overdrive) {
-            break;
-        }
-        if shifts_in(state, overdrive) {
+        if moves_in(state, overdrive) {
+            if ends_in(state, overdrive) {
+                break;
+            }
             lines[i] = state.shifted(level);
         }
         i = i + 1;

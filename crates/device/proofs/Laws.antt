@@ -148,25 +148,6 @@ module _ (state : LineState) (kind : Kind) (body : List ℕ) (level : Bool) (mor
   unfolding bytesInSlotAsIs copyInSlotAsIs bytesCopied
   going-on-copies = rw more
 
--- ---- in the last one the stage decides
-
-module _ (state : LineState) (kind : Kind) (body : List ℕ) (level : Bool) (last : goesOn (state .transfer) ≡ false) where
-  pub ending-steps : stateAfterSlotAsIs state kind body level
-      ≡ lineState (stageNext (state .transfer .stage) kind (state .overdrive) (received (state .transfer) level) body level)
-      (stageSpeed (state .transfer .stage) kind (state .overdrive) (received (state .transfer) level) body level)
-  unfolding stateAfterSlotAsIs transferAfterSlot speedAfterSlot
-  ending-steps = rw last
-
-  pub ending-writes : bodyAfterSlotAsIs state kind body level
-      ≡ stageWrite (state .transfer .stage) kind (received (state .transfer) level) body level
-  unfolding bodyAfterSlotAsIs
-  ending-writes = rw last
-
-  pub ending-copies : copyInSlotAsIs state kind body level
-      ≡ stageCopy (state .transfer .stage) kind (received (state .transfer) level) body
-  unfolding copyInSlotAsIs
-  ending-copies = rw last
-
 -- ---- how many bytes a slot copies at most
 
 stage-copies : (stage : Stage) (kind : Kind) (value : ℕ) (body : List ℕ)

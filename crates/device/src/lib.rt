@@ -3,18 +3,17 @@
 //
 // A slot is two functions, which are given the level of the line in a slot that the device hears: `step` returns the
 // line state after it and only reads the body; `slot` returns the same line state, changes the body and says what a
-// copy did. Inside a transfer both are `shifted`; its last slot, in which the stage decides, has functions of its own,
-// `ended_as_is` and `end_as_is`. A search and a run know which slot it is, and call these three. In `sends`, `step`,
-// `slot`, `reset`, `pulsed` and `pulse` a line state that the device cannot be in counts as waiting. No other function
-// tests for that: no slot, reset or pulse leads out of the range (proofs/Range.antt), so that a run, whose devices wait
-// at the start, needs it nowhere.
+// copy did. Inside a transfer both are `shifted`, and in its last slot the stage decides. In `sends`, `step`, `slot`,
+// `reset`, `pulsed` and `pulse` a line state that the device cannot be in counts as waiting. Their versions that end in
+// `_as_is` leave that test out: no slot, reset or pulse leads out of the range (proofs/Range.antt), so that a run and a
+// search, whose devices wait at the start, take the step as it is.
 use kind::Kind;
 use line::MemoryStage;
 use line::Stage;
 use line::Transfer;
 use sram::CopyDone;
 ghost use mathlib.Core.Path.{_≡_};
-ghost use Rattle.line.specs.Transfers.{goesOn, lastSlot, received, shifted};
+ghost use Rattle.line.specs.Transfers.{goesOn, lastSlot, shifted};
 ghost use Rattle.device.specs.Device.{memoryCommand, memoryNext, stageNext, memoryWrite, stageWrite, memoryReset};
 ghost use Rattle.device.specs.Device.{stageReset, memoryPulse, stagePulse, memoryProgram, stageProgram};
 ghost use Rattle.sram.specs.Sram.{bytesCopied};
@@ -286,11 +285,12 @@ impl LineState {
 
     // ---- a line state as it is
 
-    // A device waits that is at regular speed and has no transfer under way: it stays as it is until a reset.
+    // A device waits that is at regular speed and has no transfer under way: it stays as it is until a reset. The loop
+    // of the slots asks most devices nothing else: the slots left and the speed are compared with 0 in one test.
     pub fn waits(self) -> bool
         ensures { λ r. ⌜ r ≡ waits self ⌝ }
     {
-        (self.transfer.left == 0) & !self.overdrive
+        (self.transfer.left | self.overdrive as u8) == 0
     }
 
     // This is the level that the device sends in a slot.
@@ -315,13 +315,6 @@ impl LineState {
         self.transfer.left == 1
     }
 
-    // The device is at overdrive speed, else at regular speed.
-    pub fn is_at_overdrive(self) -> bool
-        ensures { λ r. ⌜ r ≡ self .overdrive ⌝ }
-    {
-        self.overdrive
-    }
-
     // This is the line state after a slot at a level that does no more than shift the register: one after which slots
     // of the transfer are left.
     pub fn shifted(self, level: bool) -> LineState
@@ -335,14 +328,14 @@ impl LineState {
         next
     }
 
-    // This is the line state after the last slot of a transfer, at a level.
-    pub fn ended_as_is(self, kind: Kind, body: &[u8], level: bool) -> LineState
-        ensures { λ r. ⌜ r ≡ lineState
-            (stageNext (self .transfer .stage) kind (self .overdrive) (received (self .transfer) level)
-            (now (body .entry)) level)
-            (stageSpeed (self .transfer .stage) kind (self .overdrive) (received (self .transfer) level)
-            (now (body .entry)) level) ⌝ }
+    // This is the line state after a slot at a level: inside a transfer the register is shifted, and after its last
+    // slot the stage and the byte received decide.
+    pub fn step_as_is(self, kind: Kind, body: &[u8], level: bool) -> LineState
+        ensures { λ r. ⌜ r ≡ stateAfterSlotAsIs self kind (now (body .entry)) level ⌝ }
     {
+        if self.goes_on() {
+            return self.shifted(level);
+        }
         let transfer = self.transfer;
         let stage = transfer.stage;
         let overdrive = self.overdrive;
@@ -351,34 +344,6 @@ impl LineState {
             transfer: stage_next(stage, kind, overdrive, value, body, level),
             overdrive: stage_speed(stage, kind, overdrive, value, body, level),
         }
-    }
-
-    // This is the line state after a slot at a level.
-    pub fn step_as_is(self, kind: Kind, body: &[u8], level: bool) -> LineState
-        ensures { λ r. ⌜ r ≡ stateAfterSlotAsIs self kind (now (body .entry)) level ⌝ }
-    {
-        if self.goes_on() {
-            return self.shifted(level);
-        }
-        self.ended_as_is(kind, body, level)
-    }
-
-    // This is the line state after the last slot of a transfer, at a level, and what a copy did in it; the body is
-    // changed as the slot does.
-    pub fn end_as_is(self, kind: Kind, body: &mut [u8], level: bool) -> Stepped
-        ensures { λ r. ⌜ (r ≡ stepped (lineState
-            (stageNext (self .transfer .stage) kind (self .overdrive) (received (self .transfer) level)
-            (now (body .entry)) level)
-            (stageSpeed (self .transfer .stage) kind (self .overdrive) (received (self .transfer) level)
-            (now (body .entry)) level))
-            (stageCopy (self .transfer .stage) kind (received (self .transfer) level) (now (body .entry))))
-            × (now (body .exit) ≡ stageWrite (self .transfer .stage) kind (received (self .transfer) level)
-            (now (body .entry)) level) ⌝ }
-    {
-        let transfer = self.transfer;
-        let stage = transfer.stage;
-        let value = bits::shift_in(transfer.register, level);
-        stage_end(stage, kind, self.overdrive, value, body, level)
     }
 
     // This is the line state after a slot at a level, and what a copy did in it; the body is changed as the slot does.
@@ -394,7 +359,10 @@ impl LineState {
                 copy: CopyDone::NoCopy,
             };
         }
-        self.end_as_is(kind, body, level)
+        let transfer = self.transfer;
+        let stage = transfer.stage;
+        let value = bits::shift_in(transfer.register, level);
+        stage_end(stage, kind, self.overdrive, value, body, level)
     }
 
     // A reset changes the body by the stage in which it comes, and leaves the device at the ROM command, at the speed

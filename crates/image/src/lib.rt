@@ -1,5 +1,5 @@
 // This crate reads an image, which is a table of contents and then the bodies of the devices, packed, and tells why an
-// image is refused.
+// image is refused. What a refusal leaves of a C host's numbers is a definition beside it (specs/Counted.antt).
 use kind::Kind;
 ghost use mathlib.Core.Path.{_≡_};
 ghost use lib.ListN.{length};

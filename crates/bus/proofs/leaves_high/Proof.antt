@@ -1,7 +1,8 @@
-use mathlib.Core.Path.{_∙_, sym, ap}
-use mathlib.Core.Bool.{Bool, not, _||_}
+use mathlib.Core.Path.{_≡_, refl, _∙_, sym, ap}
+use mathlib.Core.Bool.{Bool, true, false, not, _||_}
 use borrow.Author.Needs.{needs}
 use Rattle.device.specs.declared.LineState.{LineState}
+use Rattle.device.specs.Device.{sendsAsIs}
 use Rattle.bus.specs.declared.Event.{Event}
 use Rattle.bus.specs.Bus.{eventOf}
 use Rattle.bus.specs.Loops.{leavesHigh}
@@ -9,6 +10,14 @@ use Rattle.bus.proofs.Idle.{other-pulse}
 use Rattle.bus.proofs.Tests.{high-overdrive, high-regular, reset-low, overdrive-reset-high, pulse-high}
 use Rattle.bus.proofs.leaves_high.Statement.{statement}
 use Rattle.bus.proofs.leaves_high.Tie as tie
+
+sent-high : (a b : Bool) → b ≡ true → true ≡ (a || b)
+sent-high true b e = refl
+sent-high false b e = sym e
+
+sent-low : (a b : Bool) → b ≡ false → a ≡ (a || b)
+sent-low true b e = refl
+sent-low false b e = sym e
 
 is-slot-requires : tie.Need-is-slot-requires
 is-slot-requires c κs = search needs
@@ -34,22 +43,31 @@ returns-2 c =
     let a = c .before .before .before .before .before .before .args in
     let slot = sym (c .before .before .before .before .before .is-slot .ensures) ∙ c .before .before .before .before .if1 .taken in
     let slow = sym (c .before .before .before .is-overdrive .ensures) ∙ c .before .before .if2 .left in
-    ap (λ (b : Bool). (a .state .overdrive) || b) (c .before .sends-as-is2 .ensures) ∙ high-regular (eventOf (a .byte)) (a .state) slot slow
+    sent-high (a .state .overdrive) (sendsAsIs (a .state)) (sym (c .before .sends-as-is2 .ensures) ∙ c .if3 .taken)
+    ∙ high-regular (eventOf (a .byte)) (a .state) slot slow
 
 returns-3 : tie.Need-returns-3
-unfolding eventOf
 returns-3 c =
-    let a = c .before .before .before .args in
-    reset-low (a .state) ∙ sym (ap (λ (e : Event). leavesHigh e (a .state)) (ap eventOf (c .match .keys1)))
+    let a = c .before .before .before .before .before .before .args in
+    let slot = sym (c .before .before .before .before .before .is-slot .ensures) ∙ c .before .before .before .before .if1 .taken in
+    let slow = sym (c .before .before .before .is-overdrive .ensures) ∙ c .before .before .if2 .left in
+    sent-low (a .state .overdrive) (sendsAsIs (a .state)) (sym (c .before .sends-as-is2 .ensures) ∙ c .if3 .left)
+    ∙ high-regular (eventOf (a .byte)) (a .state) slot slow
 
 returns-4 : tie.Need-returns-4
 unfolding eventOf
 returns-4 c =
+    let a = c .before .before .before .args in
+    reset-low (a .state) ∙ sym (ap (λ (e : Event). leavesHigh e (a .state)) (ap eventOf (c .match .keys1)))
+
+returns-5 : tie.Need-returns-5
+unfolding eventOf
+returns-5 c =
     let a = c .before .before .before .before .args in
     overdrive-reset-high (a .state) ∙ sym (ap (λ (e : Event). leavesHigh e (a .state)) (ap eventOf (c .before .match .keys2)))
 
-returns-5 : tie.Need-returns-5
-returns-5 c =
+returns-6 : tie.Need-returns-6
+returns-6 c =
     let a = c .before .before .before .args in
     let other = sym (c .before .before .is-slot .ensures) ∙ c .before .if1 .left in
     let pulse = other-pulse (a .byte) other (c .match .rest .0 .1) (c .match .rest .1) in
@@ -67,4 +85,5 @@ leaves-high-spec =
     returns-2
     returns-3
     returns-4
-    returns-5)
+    returns-5
+    returns-6)

@@ -20,19 +20,20 @@ use borrow.Author.Tests.{ltb-true, ltb-false}
 use Rattle.line.specs.Transfers.{shifted as shiftedTransfer}
 use Rattle.device.specs.declared.LineState.{LineState}
 use Rattle.device.specs.Device.{lineState, waitingState}
-use Rattle.bus.specs.Loops.{lineAt, endsIn, shiftsIn, passesFrom, shiftedFrom}
+use Rattle.bus.specs.Loops.{lineAt, movesIn, endsIn, shiftsIn, passesFrom, shiftedFrom}
 use Rattle.bus.proofs.Idle.{set-same}
 use Rattle.bus.proofs.Shifts.{passes-few, passes-end, passes-on, shifted-length, shifted-behind, pass-on, pass-still}
+use Rattle.bus.proofs.Shifts.{still-whole, still-kept, moved-shifts}
 use Rattle.bus.proofs.Lines.{width, fits-at, T-true, T-false, R, mach, typed, line}
 use Rattle.bus.proofs.Shapes.{shift-all-shape as shape, in-slot-shape, shifted-shape}
 use Rattle.bus.proofs.ends_in as ends-in
 use Rattle.bus.proofs.ends_in.Symbol as ends-in-def
 use Rattle.bus.proofs.ends_in.Symbol.{name as #bus·ends-in}
 use Rattle.bus.proofs.ends_in.Met as ends-in-thm
-use Rattle.bus.proofs.shifts_in as shifts-in
-use Rattle.bus.proofs.shifts_in.Symbol as shifts-in-def
-use Rattle.bus.proofs.shifts_in.Symbol.{name as #bus·shifts-in}
-use Rattle.bus.proofs.shifts_in.Met as shifts-in-thm
+use Rattle.bus.proofs.moves_in as moves-in
+use Rattle.bus.proofs.moves_in.Symbol as moves-in-def
+use Rattle.bus.proofs.moves_in.Symbol.{name as #bus·moves-in}
+use Rattle.bus.proofs.moves_in.Met as moves-in-thm
 use Rattle.device.proofs.LineState.shifted as shifted
 use Rattle.device.proofs.LineState.shifted.Symbol as shifted-def
 use Rattle.device.proofs.LineState.shifted.Symbol.{name as #device·shifted}
@@ -50,7 +51,7 @@ module _ {M : Type 1} (𝓤 : URA M) (H : Heap 𝓤) (A : Atoms 𝓤) (W : Given
     (run : Routine → Fun 𝓤)
     (𝓣 : Tables 𝓤 H)
     (known-ends : Met 𝓤 H A 𝓣 in-slot-shape (ends-in.clauses 𝓤 H A mem run) #bus·ends-in)
-    (known-shifts : Met 𝓤 H A 𝓣 in-slot-shape (shifts-in.clauses 𝓤 H A mem run) #bus·shifts-in)
+    (known-moves : Met 𝓤 H A 𝓣 in-slot-shape (moves-in.clauses 𝓤 H A mem run) #bus·moves-in)
     (known-shifted : Met 𝓤 H A 𝓣 shifted-shape (shifted.clauses 𝓤 H A mem run) #device·shifted)
     (κs : Lfts 1) (qs : Shares 1) (x : RefT (List LineState)) (m n : ℕ) (f t : Bool) where
   abbrev ys : List LineState
@@ -143,7 +144,7 @@ module _ {M : Type 1} (𝓤 : URA M) (H : Heap 𝓤) (A : Atoms 𝓤) (W : Given
       (λ left k ok Q on out.
       let i-fits : m + k < 2 ^ 64 = omega (arith, n-is .1, ok .0, end) in
       whether ! (ltb (m + k) n)
-      -- there is a next device: its line state is copied, and asked whether more happens to it than a shift
+      -- there is a next device: its line state is copied, and asked whether the slot does something to it
       (λ less.
       let small : m + k < n = ltb-true (m + k) n less in
       let more : k < c = omega (arith, small, end) in
@@ -161,21 +162,23 @@ module _ {M : Type 1} (𝓤 : URA M) (H : Heap 𝓤) (A : Atoms 𝓤) (W : Given
       new ! (of-opd ! (elem ! refl (in-row ! line 18 fullShare (us k) (m + k) waitingState b o within refl refl))) refl
       (typed 𝓤 H A W (l k) (mach (l k)) is) $
       new ! (of-opd ! (var ! refl)) refl (typed 𝓤 H A W (l k) (mach (l k)) is) $
+      asks ! 𝓣 in-slot-shape (moves-in.clauses 𝓤 H A mem run) known-moves tt tt tt (l k, (f, tt)) (mach (l k) ∷ [], (vbool f ∷ [], tt)) tt
+      (is, (refl, tt)) (id⊢ 𝓤 _) (λ h ws. h ≡ movesIn f (l k)) (λ h ws. id⊢ 𝓤 _) (movesIn f (l k)) (tt, (tt, tt)) (λ h ws e. (e, refl))
+      (also ! refl (also ! refl (no-more !))) [] refl (λ _ _. lands-new ! refl (tt, tt) $ ifs-out ! (var ! refl)
+      -- it does, and it is asked whether it does more than shift it
+      (λ Q₁ on₁ out₁ moves-so.
       asks ! 𝓣 in-slot-shape (ends-in.clauses 𝓤 H A mem run) known-ends tt tt tt (l k, (f, tt)) (mach (l k) ∷ [], (vbool f ∷ [], tt)) tt
       (is, (refl, tt)) (id⊢ 𝓤 _) (λ h ws. h ≡ endsIn f (l k)) (λ h ws. id⊢ 𝓤 _) (endsIn f (l k)) (tt, (tt, tt)) (λ h ws e. (e, refl))
       (also ! refl (also ! refl (no-more !))) [] refl (λ _ _. lands-new ! refl (tt, tt) $ ifs-out ! (var ! refl)
-      -- more does
-      (λ Q₁ on₁ out₁ ends-so. jumps ! $ out₁ _ (out _ (
-      forget ! 7 refl $ forget ! 8 refl $ forget ! 9 refl $ forget ! 10 refl $ forget ! 11 refl $ forget ! 12 refl $
-      ends bs k (stop-here (T-true (endsIn f (l k)) ends-so)) i-fits m-is n-is room)))
-      -- no more does, and it is asked whether it is shifted
-      (λ Q₁ on₁ out₁ ends-so.
-      let go : suc k ≤ p = go-on (T-false (endsIn f (l k)) ends-so) in
-      skips ! $ on₁ _ (
-      asks ! 𝓣 in-slot-shape (shifts-in.clauses 𝓤 H A mem run) known-shifts tt tt tt (l k, (f, tt)) (mach (l k) ∷ [], (vbool f ∷ [], tt)) tt
-      (is, (refl, tt)) (id⊢ 𝓤 _) (λ h ws. h ≡ shiftsIn f (l k)) (λ h ws. id⊢ 𝓤 _) (shiftsIn f (l k)) (tt, (tt, tt)) (λ h ws e. (e, refl))
-      (also ! refl (also ! refl (no-more !))) [] refl (λ _ _. lands-new ! refl (tt, tt) $ ifs-out ! (var ! refl)
-      (λ Q₂ on₂ out₂ shifts-so.
+      -- it does more
+      (λ Q₂ on₂ out₂ ends-so. jumps ! $ out₂ _ (out₁ _ (out _ (
+      forget ! 7 refl $ forget ! 8 refl $ forget ! 9 refl $ forget ! 10 refl $ forget ! 11 refl $ forget ! 12 refl $ forget ! 13 refl $
+      ends bs k (stop-here (T-true (endsIn f (l k)) ends-so)) i-fits m-is n-is room))))
+      -- it shifts it
+      (λ Q₂ on₂ out₂ ends-so.
+      let whole : endsIn f (l k) ≡ false = T-false (endsIn f (l k)) ends-so in
+      let shifts : shiftsIn f (l k) ≡ true = moved-shifts f (l k) (T-true (movesIn f (l k)) moves-so) whole in
+      skips ! $ on₂ _ (
       asks ! 𝓣 shifted-shape (shifted.clauses 𝓤 H A mem run) known-shifted tt tt tt (l k, (t, tt)) (mach (l k) ∷ [], (vbool t ∷ [], tt)) tt
       (is, (refl, tt)) (id⊢ 𝓤 _) (λ h ws. h ≡ r k) (λ h ws. id⊢ 𝓤 _) (r k) (tt, (tt, tt)) (λ h ws e. (e, refl))
       (also ! refl (also ! refl (no-more !))) [] refl (λ got _. lands-new ! refl (typed 𝓤 H A W (r k) (mach (r k)) got) $
@@ -183,10 +186,14 @@ module _ {M : Type 1} (𝓤 : URA M) (H : Heap 𝓤) (A : Atoms 𝓤) (W : Given
       points ! width (m + k) (head ! refl refl) (var ! refl) refl tt $
       assigns-last ! (of-opd ! (var ! refl)) (from ! (hop ! (look ! 16 refl) (stop !)))
       (onto-row ! line 18 (us k) (m + k) waitingState (r k) b o within refl refl got (typed 𝓤 H A W (r k) (mach (r k)) got)) $
-      on₂ _ (bump ! refl next-fits tt $ forget ! 7 refl $ forget ! 8 refl $ forget ! 9 refl $ forget ! 10 refl $ forget ! 11 refl $ forget ! 12 refl $ forget ! 13 refl $ forget ! 14 refl $ forget ! 15 refl $ forget ! 16 refl $
-      as-same Q bs (counted k) (stored k (T-true (shiftsIn f (l k)) shifts-so)) (on (left - 1) (suc k) (omega (arith, ok .0, more)) (omega (arith, ok .0, more), go)))))
-      (λ Q₂ on₂ out₂ still-so. skips ! $ on₂ _ (bump ! refl next-fits tt $ forget ! 7 refl $ forget ! 8 refl $ forget ! 9 refl $ forget ! 10 refl $ forget ! 11 refl $ forget ! 12 refl $ forget ! 13 refl $
-      as-same Q bs (counted k) (kept k (T-false (shiftsIn f (l k)) still-so)) (on (left - 1) (suc k) (omega (arith, ok .0, more)) (omega (arith, ok .0, more), go))))))))))
+      on₁ _ (bump ! refl next-fits tt $ forget ! 7 refl $ forget ! 8 refl $ forget ! 9 refl $ forget ! 10 refl $ forget ! 11 refl $ forget ! 12 refl $ forget ! 13 refl $ forget ! 14 refl $ forget ! 15 refl $ forget ! 16 refl $
+      as-same Q bs (counted k) (stored k shifts) (on (left - 1) (suc k) (omega (arith, ok .0, more)) (omega (arith, ok .0, more), go-on whole))))))))
+      -- it does nothing
+      (λ Q₁ on₁ out₁ still-so.
+      let still : movesIn f (l k) ≡ false = T-false (movesIn f (l k)) still-so in
+      skips ! $ on₁ _ (bump ! refl next-fits tt $ forget ! 7 refl $ forget ! 8 refl $ forget ! 9 refl $ forget ! 10 refl $ forget ! 11 refl $ forget ! 12 refl $
+      as-same Q bs (counted k) (kept k (still-kept f (l k) still))
+      (on (left - 1) (suc k) (omega (arith, ok .0, more)) (omega (arith, ok .0, more), go-on (still-whole f (l k) still))))))))
       -- there is none
       (λ full.
       let past : n ≤ m + k = ltb-false (m + k) n full in
@@ -201,7 +208,7 @@ shift-all-spec 𝓤 H 𝓜 𝓖 𝓡 =
     𝓜 𝓡 code.env #bus·shift-all code.function (code.unfolded 𝓤 H 𝓜 𝓡) (λ κs a g. id⊢ 𝓤 _)
     (λ κs qs bounds a g. walk 𝓤 H (𝓖 .A) (givenOf 𝓤 H 𝓜 𝓖) (𝓜 .mem) (𝓡 .run) (tablesOf 𝓤 H 𝓜 (tables 𝓤 H 𝓜 𝓡 code.env))
     (cited 𝓤 H _ 𝓜 𝓡 code.env #bus·ends-in ends-in-def.routine code.calls-bus·ends-in (ends-in-thm.met 𝓤 H 𝓜 𝓖 𝓡))
-    (cited 𝓤 H _ 𝓜 𝓡 code.env #bus·shifts-in shifts-in-def.routine code.calls-bus·shifts-in (shifts-in-thm.met 𝓤 H 𝓜 𝓖 𝓡))
+    (cited 𝓤 H _ 𝓜 𝓡 code.env #bus·moves-in moves-in-def.routine code.calls-bus·moves-in (moves-in-thm.met 𝓤 H 𝓜 𝓖 𝓡))
     (cited 𝓤 H _ 𝓜 𝓡 code.env #device·shifted shifted-def.routine code.calls-device·LineState·shifted
     (shifted-thm.met 𝓤 H 𝓜 𝓖 𝓡))
     κs qs (a .0) (a .1 .0) (a .1 .1 .0) (a .1 .1 .1 .0) (a .1 .1 .1 .1 .0))

@@ -6,19 +6,20 @@ use borrow.Rule.Slice.PartMut.{post-is}
 use Rattle.device.specs.Device.{bytesInSlotAsIs}
 use Rattle.bus.specs.Loops.{slotTurn, imageWithBody}
 use Rattle.bus.proofs.Idle.{own-heard, other-unheard, unheard-slot-state, unheard-slot-image, unheard-slot-copied}
-use Rattle.bus.proofs.Idle.{ends-last, last-state, last-image, last-copied, last-copy}
+use Rattle.bus.proofs.Idle.{ends-busy, ends-lost, heard-slot-state, heard-slot-image, heard-slot-copied}
 use Rattle.bus.proofs.Laws.{inside-of, place-has}
 use Rattle.bus.proofs.slot.Statement.{statement}
 use Rattle.bus.proofs.slot.Tie as tie
 
-unheard-requires : tie.Need-unheard-requires
-unheard-requires c κs = search needs
+waiting-requires : tie.Need-waiting-requires
+waiting-requires c κs = search needs
 
 returns : tie.Need-returns
 returns c =
     let a = c .before .before .before .before .args in
     let deaf = other-unheard (a .state) (a .overdrive) (c .before .if1 .taken) in
-    let next = c .unheard .ensures ∙ unheard-slot-state (a .state) (a .overdrive) deaf (a .image .now) (a .i) (a .level) in (
+    let lost = ends-lost (a .overdrive) (a .state) (c .before .before .before .before .pre) deaf in
+    let next = c .waiting .ensures ∙ lost ∙ unheard-slot-state (a .state) (a .overdrive) deaf (a .image .now) (a .i) (a .level) in (
       (λ j. slotTurn (next j) (unheard-slot-copied (a .state) (a .overdrive) deaf (a .image .now) (a .i) (a .level) j)),
       unheard-slot-image (a .state) (a .overdrive) deaf (a .image .now) (a .i) (a .level),
     )
@@ -26,23 +27,23 @@ returns c =
 place-of-requires : tie.Need-place-of-requires
 place-of-requires c κs = search needs
 
-sub-end-as-is : tie.Need-sub-end-as-is
-sub-end-as-is c =
+sub-slot-as-is : tie.Need-sub-slot-as-is
+sub-slot-as-is c =
     let inside = inside-of _ _ _ (c .place-of .ensures) in
     omega arith
 
-part-end-as-is-start : tie.Need-part-end-as-is-start
-part-end-as-is-start c =
+part-slot-as-is-start : tie.Need-part-slot-as-is-start
+part-slot-as-is-start c =
     let inside = inside-of _ _ _ (c .place-of .ensures) in
     omega arith
 
-part-end-as-is-end : tie.Need-part-end-as-is-end
-part-end-as-is-end c =
+part-slot-as-is-end : tie.Need-part-slot-as-is-end
+part-slot-as-is-end c =
     let inside = inside-of _ _ _ (c .place-of .ensures) in
     omega arith
 
-end-as-is-requires : tie.Need-end-as-is-requires
-end-as-is-requires c κs = search needs
+slot-as-is-requires : tie.Need-slot-as-is-requires
+slot-as-is-requires c κs = search needs
 
 bytes-requires : tie.Need-bytes-requires
 bytes-requires c κs = search needs
@@ -57,25 +58,24 @@ returns-2 : tie.Need-returns-2
 unfolding imageWithBody bytesInSlotAsIs
 returns-2 c =
     let called = c .before .before .before .before in
-    let w = called .end-as-is in
+    let w = called .slot-as-is in
     let p = called .before .before .place-of in
     let tested = called .before .before .before .before in
     let a = tested .before .before .before .args in
     let heard = own-heard (a .state) (a .overdrive) (tested .if1 .left) in
-    let last = ends-last (a .overdrive) (a .state) (tested .before .before .before .pre) heard in
+    let busy = ends-busy (a .overdrive) (a .state) (tested .before .before .before .pre) heard in
     let own = place-has (a .image .now) (a .i) (p .result) (p .ensures) in
     let inside = inside-of _ _ _ (p .ensures) in (
       rw (
-        last-state (a .state) (a .overdrive) heard last (a .image .now) (a .i) (a .level),
-        last-copied (a .state) (a .overdrive) heard last (a .image .now) (a .i) (a .level),
-        last-copy (a .state) (a .overdrive) heard last (a .image .now) (a .i) (a .level),
+        heard-slot-state (a .state) (a .overdrive) heard busy (a .image .now) (a .i) (a .level),
+        heard-slot-copied (a .state) (a .overdrive) heard busy (a .image .now) (a .i) (a .level),
         own .0,
         own .1,
         c .bytes .ensures,
         w .ensures .0,
       ),
       rw (
-        last-image (a .state) (a .overdrive) heard last (a .image .now) (a .i) (a .level),
+        heard-slot-image (a .state) (a .overdrive) heard busy (a .image .now) (a .i) (a .level),
         own .0,
         own .1,
         ← p .ensures,
@@ -88,13 +88,13 @@ pub slot-spec : {M : Type 1} → statement M
 slot-spec =
     tie.close
     (tie.spec
-    unheard-requires
+    waiting-requires
     returns
     place-of-requires
-    sub-end-as-is
-    part-end-as-is-start
-    part-end-as-is-end
-    end-as-is-requires
+    sub-slot-as-is
+    part-slot-as-is-start
+    part-slot-as-is-end
+    slot-as-is-requires
     bytes-requires
     cast-copied
     same-length

@@ -1,4 +1,4 @@
-use Rattle.device.specs.Device.{bodyAfterSlotAsIs, copyInSlotAsIs, speedAfterSlot, stageCopy, stageWrite, stateAfterSlotAsIs, transferAfterSlot}
+use Rattle.device.specs.Device.{bodyAfterSlotAsIs, copyInSlotAsIs, speedAfterSlot, stageCopy, stageNext, stageSpeed, stageWrite, stateAfterSlotAsIs, transferAfterSlot}
 use mathlib.Core.Path.{_∙_, refl, sym}
 use borrow.Author.Needs.{needs}
 use Rattle.device.proofs.LineState.slot_as_is.Statement.{statement}
@@ -14,17 +14,32 @@ returns : tie.Need-returns
 unfolding stateAfterSlotAsIs bodyAfterSlotAsIs copyInSlotAsIs transferAfterSlot speedAfterSlot stageWrite stageCopy
 returns c = simp (c .shifted .ensures, sym (c .before .before .goes-on .ensures) ∙ c .before .if1 .taken) (refl, refl)
 
-end-as-is-requires : tie.Need-end-as-is-requires
-end-as-is-requires c κs = search needs
+shift-in-requires : tie.Need-shift-in-requires
+shift-in-requires c κs = search needs
+
+stage-end-requires : tie.Need-stage-end-requires
+stage-end-requires c κs = search needs
 
 same-length : tie.Need-same-length
 same-length c = search needs
 
 returns-2 : tie.Need-returns-2
-unfolding stateAfterSlotAsIs bodyAfterSlotAsIs copyInSlotAsIs transferAfterSlot speedAfterSlot stageWrite stageCopy
-returns-2 c = simp (c .before .before .end-as-is .ensures .0, c .before .before .end-as-is .ensures .1, sym (c .before .before .before .before .before .goes-on .ensures) ∙ c .before .before .before .before .if1 .left) (refl, refl)
+unfolding stateAfterSlotAsIs bodyAfterSlotAsIs copyInSlotAsIs transferAfterSlot speedAfterSlot stageNext stageSpeed stageWrite stageCopy
+returns-2 c =
+    let ended = c .before .before .stage-end .ensures in
+    let received = c .before .before .before .before .shift-in .ensures in
+    let tested = c .before .before .before .before .before .before in
+    let last = sym (tested .before .goes-on .ensures) ∙ tested .if1 .left in
+    simp (ended .0, ended .1, received, last) (refl, refl)
 
 pub slot-as-is-spec : {M : Type 1} → statement M
 slot-as-is-spec =
     tie.close
-    (tie.spec goes-on-requires shifted-requires returns end-as-is-requires same-length returns-2)
+    (tie.spec
+    goes-on-requires
+    shifted-requires
+    returns
+    shift-in-requires
+    stage-end-requires
+    same-length
+    returns-2)
