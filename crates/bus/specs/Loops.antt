@@ -26,7 +26,8 @@ use Rattle.bus.specs.Bus.{Device, deviceWith, eventOf, isSlot, hears, ma
 
 -- ---- one device, without a test of its line state's range
 
--- An event at a level leaves a device in this line state, which is not tested for its range, and with this body.
+-- An event that a device hears leaves it, at a level, in this line state, which is not tested for its range, and with
+-- this body.
 unfoldable pub heardStateAsIs : Event → Bool → Device → LineState
 heardStateAsIs (Slot sent) level d = stateAfterSlotAsIs (d .state) (d .kind) (d .body) level
 heardStateAsIs Reset level d = resetState
@@ -85,7 +86,8 @@ endsIn false state = state .overdrive || lastSlot (state .transfer)
 unfoldable pub shiftsIn : Bool → LineState → Bool
 shiftsIn overdrive state = Bool·beq (state .overdrive) overdrive && goesOn (state .transfer)
 
--- A slot leaves a device to which no more happens in this line state: any that is not shifted stays as it is.
+-- A slot leaves a device to which no more than a shift happens in this line state: any that is not shifted stays as it
+-- is.
 unfoldable pub passState : Bool → Bool → LineState → LineState
 passState overdrive level state =
     cond (shiftsIn overdrive state) (lineState (shifted (state .transfer) level) (state .overdrive)) state
