@@ -1,6 +1,8 @@
 // This crate is the bits of bytes, least significant first, and the CRC-8 of a registration code.
 //
 // Every function accepts any input: a read past the end gives 0, and a write past the end changes nothing.
+#![tactic(auto)]
+
 mod crc;
 
 ghost use Rattle.std.specs.Prelude.{◌≡◌, ◌<◌, ◌^◌, get_or, set};

@@ -3,6 +3,8 @@
 // The image holds the devices' bodies, and a lent slice holds their line states. One device's part in an event is a
 // function by value over the image and its line state; the loops over all devices, over the trace, and the run above
 // them only fetch, call and store.
+#![tactic(auto)]
+
 ghost use Rattle.std.specs.Prelude.{◌≡◌, ◌≤◌, ◌+◌, ◌-◌, true, false, not, ◌||◌, length, eqb, ltb};
 ghost use Rattle.image.specs.Image.{count_of, kind_at};
 ghost use Rattle.image.specs.Refusal.{some_below};
@@ -26,7 +28,7 @@ use kind::Kind;
 
 // An event on the line is a slot in which the master sends a bit, a reset, or a program pulse; slots and resets come at
 // regular speed or at overdrive.
-#[derive(Drop)]
+#[derive(Clone, Copy)]
 pub enum Event {
     Slot(bool),
     Reset,
@@ -36,7 +38,7 @@ pub enum Event {
 }
 
 // A place is a device's kind and the part of the image that is its body.
-#[derive(Drop)]
+#[derive(Clone, Copy)]
 pub struct Place {
     pub kind: Kind,
     pub start: usize,
@@ -45,21 +47,21 @@ pub struct Place {
 
 // A scan is the level of an event, and how many devices count as looked at for it: in a slot in which the master sends
 // 1, at either speed, those up to the first that pulls low, in entry order, else none.
-#[derive(Drop)]
+#[derive(Clone, Copy)]
 pub struct Scan {
     pub level: bool,
     pub looked: usize,
 }
 
 // The part of a device in an event leaves it in a line state, and copies so many bytes to its memory.
-#[derive(Drop)]
+#[derive(Clone, Copy)]
 struct SlotTurn {
     next: LineState,
     copied: u64,
 }
 
 // An event has a level, for which so many devices were looked at, and all devices together copy so many bytes in it.
-#[derive(Drop)]
+#[derive(Clone, Copy)]
 pub struct EventResult {
     pub level: bool,
     pub looked: usize,
@@ -67,7 +69,7 @@ pub struct EventResult {
 }
 
 // A run has a number, which is 0 where it is not refused, and copies so many bytes; one that is refused copies none.
-#[derive(Drop)]
+#[derive(Clone, Copy)]
 pub struct RunResult {
     pub number: u32,
     pub copied: u64,

@@ -7,6 +7,8 @@
 // `reset`, `pulsed` and `pulse` a line state that the device cannot be in counts as waiting. Their versions that end in
 // `_as_is` leave that test out: no slot, reset or pulse leads out of the range (proofs/Range.antt), so that a run and a
 // search, whose devices wait at the start, take the step as it is.
+#![tactic(auto)]
+
 ghost use Rattle.std.specs.Prelude.{◌≡◌};
 ghost use Rattle.line.specs.Transfers.{goes_on, last_slot, shifted};
 ghost use Rattle.device.specs.Device.{memory_command, memory_next, stage_next, memory_write, stage_write, memory_reset};
@@ -26,7 +28,7 @@ use line::{MemoryStage, Stage, Transfer};
 use sram::CopyDone;
 
 // A line state is where a device is on the line: document 01's line record.
-#[derive(Drop)]
+#[derive(Clone, Copy)]
 pub struct LineState {
     pub transfer: Transfer,
     // The device is at overdrive speed, else at regular speed.
@@ -34,7 +36,7 @@ pub struct LineState {
 }
 
 // A slot hands up the line state after it, and what a copy did in it.
-#[derive(Drop)]
+#[derive(Clone, Copy)]
 pub struct Stepped {
     pub next: LineState,
     pub copy: CopyDone,

@@ -3,6 +3,8 @@
 //
 // The end of a transfer only reads the body. A pulse is two functions: `pulse` returns the transfer after it and only
 // reads the body, `program` changes the body.
+#![tactic(auto)]
+
 mod fields;
 mod reads;
 mod view;

@@ -1,5 +1,7 @@
 // This crate reads an image, which is a table of contents and then the bodies of the devices, packed, and tells why an
 // image is refused. What a refusal leaves of a C host's numbers is a definition beside it (specs/Counted.antt).
+#![tactic(auto)]
+
 ghost use Rattle.std.specs.Prelude.{◌≡◌, length};
 ghost use Rattle.kind.specs.Kind.{body_size};
 ghost use Rattle.image.specs.Image.{count_of, edition_of, family_at, second_at, offset_at, flat_at, kind_at, code_at};
@@ -11,7 +13,7 @@ ghost use Rattle.image.specs.Refusal.{code_refused, some_code_refused, code_repe
 use kind::Kind;
 
 // An entry names its device's kind, with the state of its battery, and where the body starts in the image.
-#[derive(Drop)]
+#[derive(Clone, Copy)]
 pub struct Entry {
     pub kind: Kind,
     pub start: usize,

@@ -6,6 +6,8 @@
 // before that device's last write. Up to a memory command or a write's address, one device's way over the line depends
 // on its code and on the levels alone, so that it is followed by value from a reset on that it heard and that left it
 // at a known speed, with the recorded answers as levels; no second image is needed.
+#![tactic(auto)]
+
 ghost use Rattle.std.specs.Prelude.{◌≡◌, ◌≤◌, ◌<◌, ◌+◌, ◌-◌, true, false, cond, ◌||◌, length, eqb};
 ghost use Rattle.sram.specs.Sram.{target_offset};
 ghost use Rattle.device.specs.Device.{reset_at};
@@ -29,14 +31,14 @@ use line::{MemoryStage, SramStage, Stage};
 
 // Document 02's rules A, B and C: the answers are the bench's; no write or copy command goes to more than one device;
 // each copy was read back before.
-#[derive(Drop)]
+#[derive(Clone, Copy)]
 pub enum Rule {
     Answers,
     Command,
     Copy,
 }
 
-#[derive(Drop)]
+#[derive(Clone, Copy)]
 pub enum Verdict {
     Accepted,
     // The event is the first that breaks the rule.
@@ -45,7 +47,7 @@ pub enum Verdict {
 }
 
 // What a device does in a stage, as far as the rules look at it.
-#[derive(Drop)]
+#[derive(Clone, Copy)]
 enum Doing {
     // The device receives the memory command.
     Command,
@@ -57,7 +59,7 @@ enum Doing {
 }
 
 // An event is marked if in it a read's command completes, or a write has its 16th address bit.
-#[derive(Drop)]
+#[derive(Clone, Copy)]
 enum Mark {
     Unmarked,
     Wrote,
@@ -66,7 +68,7 @@ enum Mark {
 
 // A part of the trace has `wrote` if it has a write, and `shown` if a read after the last of its writes, or any read
 // where it has none, showed what it had to.
-#[derive(Drop)]
+#[derive(Clone, Copy)]
 struct Part {
     wrote: bool,
     shown: bool,
@@ -76,7 +78,7 @@ struct Part {
 // reads in them showed what it had to, and it has decided once it has found the last write. With `overdrive` the device
 // is known to have been at overdrive before the event that was looked at last, or at the copy where none was yet;
 // without it nothing is told of its speed.
-#[derive(Drop)]
+#[derive(Clone, Copy)]
 struct Back {
     end: usize,
     shown: bool,
@@ -86,7 +88,7 @@ struct Back {
 
 // Of the devices that were looked at in an event, so many are at the memory command; where `completed` is true one of
 // them completes a write or copy command in it, and where `careless` is true one accepts a copy that was not read back.
-#[derive(Drop)]
+#[derive(Clone, Copy)]
 struct Seen {
     commands: usize,
     completed: bool,

@@ -1,5 +1,7 @@
 // This crate is what a C program calls of the judge, on numbers and byte slices. It is an object of its own: in one
 // with `troughiron` a step of the bus would have two callers, would not be inlined, and the run would be slower.
+#![tactic(auto)]
+
 ghost use Rattle.judge_call.specs.Host.{OwnJudgeLeaves, HostJudgeLeaves, host_judge};
 
 use device::LineState;

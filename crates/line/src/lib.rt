@@ -5,13 +5,15 @@
 // that is under way; only after its last slot do the stage and the byte received decide which transfer comes next.
 //
 // All numbers of a stage are bytes, so that a transfer fits into eight of them.
+#![tactic(auto)]
+
 ghost use Rattle.std.specs.Prelude.{◌≡◌, ◌-◌, ltb};
 ghost use Rattle.line.specs.Transfers.{waiting, sending, listening, listening_once, at_rom_command};
 ghost use Rattle.bits.specs.Bit.{bit_of};
 ghost use Rattle.line.specs.Transfers.{at_memory_command, under_way};
 
 // The ROM stage decides which device is addressed. A device that waits for a reset is in this stage too.
-#[derive(Drop)]
+#[derive(Clone, Copy)]
 pub enum RomStage {
     Waiting,
     // The device receives the command.
@@ -28,7 +30,7 @@ pub enum RomStage {
 }
 
 // These are the memory functions of a DS1992, DS1993 or DS1996.
-#[derive(Drop)]
+#[derive(Clone, Copy)]
 pub enum SramStage {
     // Write scratchpad receives the address, low byte first, then each data bit in a slot of its own. `offset` and
     // `bit` are the place in the scratchpad of the bit that comes next; `offset` is 32 when offset 31 is complete.
@@ -50,14 +52,14 @@ pub enum SramStage {
 }
 
 // A DS1982 has two fields.
-#[derive(Drop)]
+#[derive(Clone, Copy)]
 pub enum Field {
     Data,
     Status,
 }
 
 // A DS1982 has three reads: F0h, AAh and C3h.
-#[derive(Drop)]
+#[derive(Clone, Copy)]
 pub enum EpromRead {
     Memory,
     Status,
@@ -65,7 +67,7 @@ pub enum EpromRead {
 }
 
 // These are the memory functions of a DS1982.
-#[derive(Drop)]
+#[derive(Clone, Copy)]
 pub enum EpromStage {
     // A read receives the address, low byte first; then it sends a CRC, with the address of the byte that comes after
     // it, or a byte, with the CRC of the bytes since the last CRC, this one among them.
@@ -117,21 +119,21 @@ pub enum EpromStage {
 }
 
 // After the ROM stage a device receives the memory command, then goes through a memory function of its kind.
-#[derive(Drop)]
+#[derive(Clone, Copy)]
 pub enum MemoryStage {
     Command,
     Sram(SramStage),
     Eprom(EpromStage),
 }
 
-#[derive(Drop)]
+#[derive(Clone, Copy)]
 pub enum Stage {
     Rom(RomStage),
     Memory(MemoryStage),
 }
 
 // A transfer is what a device sends or receives in the next slots.
-#[derive(Drop)]
+#[derive(Clone, Copy)]
 pub struct Transfer {
     // The shift register sends from its lowest bit and receives at its highest.
     pub register: u8,

@@ -13,7 +13,7 @@ use crate::{Answer, CODE_BYTES, End, MOST_PASSES, Master, PASS_EVENTS};
 const MOST_EVENTS: usize = 64 * PASS_EVENTS;
 
 // A drive with recorded levels ends in one of three ways.
-#[derive(Drop)]
+#[derive(Clone, Copy)]
 pub enum Outcome {
     // A buffer has too little room, and nothing was written.
     Refused,
@@ -24,7 +24,7 @@ pub enum Outcome {
 }
 
 // A drive returns this beside what it writes to its buffers.
-#[derive(Drop)]
+#[derive(Clone, Copy)]
 pub struct Driven {
     pub outcome: Outcome,
     // These are the numbers of events sent and of codes completed.

@@ -3,6 +3,8 @@
 // A pass is a reset, the command F0h in eight slots, and for each of the 64 bits of a code two read slots and one
 // direction. A stage names the event that was sent last, and its `at` is the bit of the command or of the code that the
 // event belongs to. The level that a step is given is the level of that event.
+#![tactic(auto)]
+
 mod driving;
 
 ghost use Rattle.std.specs.Prelude.{◌≡◌, ◌<◌};
@@ -16,7 +18,7 @@ ghost use Rattle.master.specs.Master.{next_master, step_of};
 pub use driving::{Driven, Outcome, drive, keep_code};
 
 // A master ends for one of these reasons.
-#[derive(Drop)]
+#[derive(Clone, Copy)]
 pub enum End {
     // No discrepancy is open, or no device was present at the first reset.
     Done,
@@ -29,7 +31,7 @@ pub enum End {
 }
 
 // A step answers with an event to send, or with the end.
-#[derive(Drop)]
+#[derive(Clone, Copy)]
 pub enum Answer {
     // The next event is 0 for a write-zero slot, 1 for a write-one slot (also the read slot), or 2 for a reset.
     Event(u8),
@@ -37,7 +39,7 @@ pub enum Answer {
 }
 
 // A stage names the event that was sent last.
-#[derive(Drop)]
+#[derive(Clone, Copy)]
 pub enum Stage {
     // No event has been sent so far.
     Fresh,
@@ -53,7 +55,7 @@ pub enum Stage {
 }
 
 // The last open discrepancy of a pass is the highest bit where both read slots read 0 and 0 was sent.
-#[derive(Drop)]
+#[derive(Clone, Copy)]
 pub enum Discrepancy {
     None,
     At(u8),
@@ -62,7 +64,7 @@ pub enum Discrepancy {
 // A master is the state of a search. A step that completes a code hands it up: `passes` is one more than before, and
 // `previous` is that code. The fields are private, so that no other crate can build a master: there are only the fresh
 // one and those that a step hands back.
-#[derive(Drop)]
+#[derive(Clone, Copy)]
 pub struct Master {
     stage: Stage,
     // So many codes are completed.
@@ -97,7 +99,7 @@ const MOST_PASSES: u8 = 64;
 pub const PASS_EVENTS: usize = 201;
 
 // A step returns its answer, and the master for the next step. The fields are private, so that only a step makes one.
-#[derive(Drop)]
+#[derive(Clone, Copy)]
 pub struct Step {
     answer: Answer,
     next: Master,

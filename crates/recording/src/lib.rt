@@ -2,6 +2,8 @@
 // it recorded, and a place in both. A reader begins before the first event, is asked at each event, and moves on to the
 // next. The functions over the struct are thin and proved by hand; the work is done by functions over plain slices and
 // numbers.
+#![tactic(auto)]
+
 ghost use Rattle.std.specs.Prelude.{◌≡◌, length};
 ghost use Rattle.recording.specs.Recorded.{agrees_at, next_at};
 

@@ -1,4 +1,6 @@
 // This crate is the ROM stage, which decides which devices are addressed.
+#![tactic(auto)]
+
 ghost use Rattle.std.specs.Prelude.{◌≡◌, true, cond};
 ghost use Rattle.kind.specs.Kind.{has_overdrive};
 ghost use Rattle.rom.specs.Rom.{rom_range, read_byte, match_bit, search_bit, addressed, rom_command, after_read};

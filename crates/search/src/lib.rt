@@ -3,6 +3,8 @@
 // The image is only read. The loop over the exchanges sends what the master answers to the devices, and gives the level
 // that they answer to the master's next step; what is written and stored between is a function by value over the
 // buffers.
+#![tactic(auto)]
+
 ghost use Rattle.std.specs.Prelude.{◌≡◌, ◌≤◌, ◌<◌, ◌+◌, ◌*◌, cond, ◌&&◌, ◌++◌, length, take, drop, get_or};
 ghost use Rattle.std.proofs.lemmas.List.Edits.{sets};
 ghost use Rattle.image.specs.Image.{count_of};
@@ -23,7 +25,7 @@ use image::ACCEPTED;
 use master::{Answer, CODE_BYTES, Master, PASS_EVENTS, RESET, Step};
 
 // A search returns this beside what it writes to its buffers.
-#[derive(Drop)]
+#[derive(Clone, Copy)]
 pub struct Found {
     // The number is 0 where the search is not refused.
     pub number: u32,

@@ -1,6 +1,8 @@
 // This crate is what a C program calls of the search, on numbers and byte slices. It is an object of its own: in one
 // with `troughiron` what ends a transfer of a device would have two callers, would not be inlined, and the search and
 // the run would be slower.
+#![tactic(auto)]
+
 ghost use Rattle.std.specs.Prelude.{◌≡◌};
 ghost use Rattle.search_laws.specs.Search.{search_of};
 ghost use Rattle.search_laws.specs.Searched.{Searched};

@@ -3,6 +3,8 @@
 //
 // The end of a transfer is two functions: `next` returns the transfer that follows and only reads the body, `write`
 // changes the body and says what a copy did. So a search, which changes no body, needs only the first.
+#![tactic(auto)]
+
 ghost use Rattle.std.specs.Prelude.{◌≡◌, ◌+◌, ◌<◌};
 ghost use Rattle.sram.specs.Sram.{in_sram, address_of, target_address, target_offset, ending_offset, load_address};
 ghost use Rattle.sram.specs.Sram.{write_data_bit, load_target, begin_byte};
@@ -26,7 +28,7 @@ const AA: usize = 8 * kind::ES + 7;
 const LAST_REGISTER: u8 = 2;
 
 // A copy writes so many bytes to memory, from an address on. The address is the target also where no byte is written.
-#[derive(Drop)]
+#[derive(Clone, Copy)]
 pub struct Written {
     pub address: u16,
     pub bytes: u8,
@@ -34,7 +36,7 @@ pub struct Written {
 
 // The end of a transfer makes no copy, or one that writes so many bytes to memory from an address on. A copy of nothing
 // is a copy too.
-#[derive(Drop)]
+#[derive(Clone, Copy)]
 pub enum CopyDone {
     NoCopy,
     Made { address: u16, bytes: u8 },

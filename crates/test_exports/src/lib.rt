@@ -1,5 +1,7 @@
 // These calls are for the tests only, and the host's interface does not have them: the searching master driven with
 // recorded levels, the view of a DS1982's fields, and how many devices each slot's level of a run looks at.
+#![tactic(auto)]
+
 ghost use Rattle.std.specs.Prelude.{◌≡◌, ◌≤◌, ◌%◌, length, replicate};
 ghost use Rattle.std.proofs.lemmas.List.Edits.{sets};
 ghost use Rattle.master.specs.Master.{end_number};

@@ -1,5 +1,7 @@
 // This crate is what a C program calls, on numbers and byte slices, but for the search and the judge, whose calls are
 // in `search_call` and `judge_call`.
+#![tactic(auto)]
+
 ghost use Rattle.std.specs.Prelude.{◌≡◌, cond};
 ghost use Rattle.bits.specs.Crc.{registration_check};
 ghost use Rattle.troughiron.specs.Host.{OwnRunLeaves, HostRunLeaves, host_run};

@@ -3,6 +3,8 @@
 //
 // The codes are those engraved in the data sheets of the DS1996 and DS1982, and the worked example of the CRC. What is
 // printed is compared with a stored text.
+#![tactic(auto)]
+
 use libc::STDOUT_FILENO;
 
 // The first body starts after the count, the edition and three entries of four bytes.
