@@ -17,12 +17,12 @@ pub loop-i-preserved : goal.loop-i-preserved
 loop-i-preserved c =
     let l = c.loop-i in
     let a = c.args in
-    let eight : length a.t3 ≡ 8 = search rules in
-    (omega arith, omega arith, rw c.put_byte.ensures (store-next l.codes a.t3 (8 * a.place) l.i (omega arith) ∙ l.invariant.2))
+    let eight : length a.code ≡ 8 = search rules in
+    (omega arith, omega arith, rw c.put_byte.ensures (store-next l.codes a.code (8 * a.place) l.i (omega arith) ∙ l.invariant.2))
 
 pub returns : goal.returns
 returns c =
     let l = c.loop-i in
     let a = c.args in
-    let eight : length a.t3 ≡ 8 = search rules in
-    sym (store-none l.codes a.t3 (8 * a.place + l.i) l.i (omega arith)) ∙ l.invariant.2
+    let eight : length a.code ≡ 8 = search rules in
+    sym (store-none l.codes a.code (8 * a.place + l.i) l.i (omega arith)) ∙ l.invariant.2
