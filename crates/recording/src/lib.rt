@@ -6,7 +6,7 @@
 ghost use Rattle.std.specs.Prelude.{◌≡◌, length};
 ghost use Rattle.recording.specs.Recorded.{agrees_at, next_at};
 
-#[derive(Drop)]
+#[derive(Clone, Copy)]
 pub struct Recording<'a, 'b> {
     trace: &'a [u8],
     answers: &'b [u8],
