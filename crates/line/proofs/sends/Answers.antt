@@ -1,0 +1,5 @@
+use borrow.Author.Rules.{rules}
+use Rattle.line.proofs.sends.Goals as goal
+
+pub returns : goal.returns
+returns c = simp c.bit_of.ensures
