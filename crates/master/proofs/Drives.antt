@@ -79,9 +79,9 @@ sent-most {m} {i} later r h more = choose (master_answer m) refl
 
 pub events-most : {m : Master} {i : ℕ} (levels : List ℕ) → Reached m i → i ≤ most_passes * pass_events → i + length (events_from m levels) ≤ most_passes * pass_events
 unfolding events_from
-events-most [] r h = sent-most [] r h (λ k. omega arith)
-events-most {m} (level ∷ levels) r h =
-    sent-most (events_from (next_master m level) levels) r h (λ k. events-most levels (reached-on r (not (eqb level 0))) k)
+events-most {m = m} {i = i} [] r h = sent-most [] r h (λ k. omega arith)
+events-most {m = m} {i = i} (level ∷ levels) r h =
+    sent-most (events_from (next_master m level) levels) r h (λ k. events-most {m = master_after_level m (not (eqb level 0))} {i = suc i} levels (reached-on r (not (eqb level 0))) k)
 
 pub events-fit : (levels : List ℕ) → length (events_from started_master levels) ≤ drive_trace_room (length levels)
 unfolding drive_trace_room
@@ -93,19 +93,19 @@ events-fit levels =
 -- 8 bytes for each code completed
 pub codes-size : {m : Master} {i : ℕ} (levels : List ℕ) → Reached m i → 8 * m.passes + length (codes_from m levels) ≡ 8 * (master_after_levels m levels).passes
 unfolding codes_from master_after_levels
-codes-size {m} [] r = omega arith
-codes-size {m} (level ∷ levels) r =
+codes-size {m = m} {i = i} [] r = omega arith
+codes-size {m = m} {i = i} (level ∷ levels) r =
     let n = next_master m level in
     let a = completed-size r (not (eqb level 0)) in
-    let b = codes-size levels (reached-on r (not (eqb level 0))) in
+    let b = codes-size {m = master_after_level m (not (eqb level 0))} {i = suc i} levels (reached-on r (not (eqb level 0))) in
     omega (arith, length-append (code_completed m.passes n) (codes_from n levels))
 
 pub last-reached : {m : Master} {i : ℕ} (levels : List ℕ) → Reached m i → Reached (master_after_levels m levels) (i + length levels)
 unfolding master_after_levels
-last-reached {m} {i} [] r = subst (λ (k : ℕ). Reached m k) (sym (add-zero i)) r
-last-reached {m} {i} (level ∷ levels) r =
+last-reached {m = m} {i = i} [] r = subst (λ (k : ℕ). Reached m k) (sym (add-zero i)) r
+last-reached {m = m} {i = i} (level ∷ levels) r =
     subst (λ (k : ℕ). Reached (master_after_levels (next_master m level) levels) k) (suc-add i (length levels) ∙ sym (add-suc i (length levels)))
-    (last-reached levels (reached-on r (not (eqb level 0))))
+    (last-reached {m = master_after_level m (not (eqb level 0))} {i = suc i} levels (reached-on r (not (eqb level 0))))
 
 pub codes-fit : (levels : List ℕ) → length (codes_from started_master levels) ≤ drive_code_room (length levels)
 unfolding drive_code_room

@@ -1,0 +1,7 @@
+use Rattle.device.specs.Device.{state_after_pulse}
+use borrow.Author.Rules.{rules}
+use Rattle.device.proofs.LineState.pulsed.Goals as goal
+
+pub returns : goal.returns
+unfolding state_after_pulse
+returns c = simp (c.pulsed_as_is.ensures, c.or_waiting.ensures)

@@ -1,0 +1,5 @@
+use borrow.Author.Rules.{rules}
+use Rattle.device.proofs.LineState.waiting.Goals as goal
+
+pub returns : goal.returns
+returns c = simp c.waiting.ensures

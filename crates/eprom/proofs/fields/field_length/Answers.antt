@@ -1,0 +1,11 @@
+use Rattle.eprom.specs.Fields.{field_length}
+use borrow.Author.Rules.{rules}
+use Rattle.eprom.proofs.fields.field_length.Goals as goal
+
+pub returns-in-Data : goal.returns-in-Data
+unfolding field_length
+returns-in-Data c = simp c.in-Data.is
+
+pub returns-in-Status : goal.returns-in-Status
+unfolding field_length
+returns-in-Status c = simp c.in-Status.is

@@ -1,0 +1,5 @@
+use borrow.Author.Rules.{rules}
+use Rattle.eprom.proofs.writes.write_high.Goals as goal
+
+pub returns : goal.returns
+returns c = simp (c.listening.ensures, c.in_eprom.ensures)

@@ -1,0 +1,30 @@
+use Rattle.image.proofs.Laws.{size-bound, packed-next}
+use Rattle.image.specs.Image.{count_of, family_at, flat_at}
+use lib.ListN.{length}
+use Prim.Native.Nat.{◌≤◌}
+use borrow.Author.Tests.{eq-eqb, ne_eqb}
+use mathlib.Core.Bool.{◌||◌}
+use Prim.Native.Nat.{ℕ}
+use mathlib.Core.Bool.{Bool, true}
+use mathlib.Core.Path.{sym, ap, ◌∙◌}
+use Rattle.image.specs.Refusal.{body_misplaced}
+use Rattle.kind.specs.Kind.{body_size}
+use borrow.Author.Rules.{rules}
+use mathlib.Core.Path.{refl}
+use native.Mathlib.Omega.{arith}
+use Rattle.image.proofs.Laws.{some_at, some_more, packed-bound}
+use Rattle.image.specs.Refusal.{some_below}
+use Rattle.image.specs.Image.{offset_at, packed_at}
+use lib.Dec.{eqb}
+use Prim.Native.Nat.{◌≤◌, ◌-◌}
+use mathlib.Core.Bool.{false, not}
+use mathlib.Core.Path.{◌≡◌}
+use Rattle.image.proofs.is_misplaced.Given as goal
+
+abbrev pub invariant-loop-i : goal.invariant-loop-i
+invariant-loop-i l =
+    (l.i ≤ l.n) × (l.at ≡ packed_at l.image l.i) × (some_below l.i (λ k. not (eqb (offset_at l.image k) (packed_at l.image k))) ≡ false)
+
+abbrev pub decreases-loop-i : goal.decreases-loop-i
+decreases-loop-i l =
+    l.n - l.i

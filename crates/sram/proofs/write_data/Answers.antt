@@ -1,0 +1,5 @@
+use borrow.Author.Rules.{rules}
+use Rattle.sram.proofs.write_data.Goals as goal
+
+pub returns : goal.returns
+returns c = simp (c.listening_once.ensures, c.in_sram.ensures)
