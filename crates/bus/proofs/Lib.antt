@@ -2,11 +2,9 @@ pub mod Idle
 pub mod Kept
 pub mod Laws
 pub mod Levels
-pub mod Lines
 pub mod Looked
 pub mod Ranges
 pub mod Runs
-pub mod Shapes
 pub mod Shown
 pub mod Shifts
 pub mod States

@@ -1,0 +1,19 @@
+use Prim.Native.Nat.{◌≤◌, ◌-◌}
+use mathlib.Core.Path.{◌≡◌, refl, ◌∙◌}
+use mathlib.Core.Bool.{◌||◌}
+use native.Mathlib.Omega.{arith}
+use lib.ListN.{length, drop}
+use lib.Dec.{ltb}
+use borrow.Author.Rules.{rules}
+use Rattle.bus.specs.Refusal.{some_byte}
+use Rattle.bus.proofs.Laws.{byte_more, byte-end}
+use Rattle.bus.proofs.has_unknown_event.Goals as goal
+
+pub loop-k-init : goal.loop-k-init
+loop-k-init c = (omega arith, refl)
+
+pub loop-k-preserved : goal.loop-k-preserved
+loop-k-preserved c = (omega arith, rw c.either-found.ensures (byte_more (λ byte. ltb 6 byte) c.args.trace.now c.loop-k.k c.loop-k.found c.loop-k-test.true c.loop-k.invariant.1))
+
+pub returns : goal.returns
+returns c = byte-end (λ byte. ltb 6 byte) _ _ _ c.loop-k-test.false c.loop-k.invariant.1

@@ -1,0 +1,18 @@
+use Prim.Native.Nat.{◌≤◌, ◌-◌}
+use mathlib.Core.Path.{◌≡◌, refl, ◌∙◌}
+use mathlib.Core.Bool.{◌||◌}
+use native.Mathlib.Omega.{arith}
+use lib.ListN.{length, drop}
+use lib.Dec.{ltb}
+use borrow.Author.Rules.{rules}
+use Rattle.bus.specs.Refusal.{some_byte}
+use Rattle.bus.proofs.Laws.{byte_more, byte-end}
+use Rattle.bus.proofs.has_unknown_event.Given as goal
+
+abbrev pub invariant-loop-k : goal.invariant-loop-k
+invariant-loop-k l =
+    (l.k ≤ length l.trace) × ((l.found || some_byte (λ byte. ltb 6 byte) (drop l.k l.trace)) ≡ some_byte (λ byte. ltb 6 byte) l.trace)
+
+abbrev pub decreases-loop-k : goal.decreases-loop-k
+decreases-loop-k l =
+    length l.trace - l.k
