@@ -19,7 +19,7 @@ use Rattle.bus.specs.declared.Event.{Event}
 use Rattle.bus.specs.declared.Event.TheVariants.{Slot, Reset, Pulse, OverdriveSlot, OverdriveReset}
 use Rattle.bus.specs.declared.Place.{Place}
 use Rattle.bus.specs.declared.SlotTurn.{SlotTurn}
-use Rattle.bus.specs.Bus.{Device, event_of, hears, heard_state, heard_body, unheard_state, heard_copied, next_state, next_body, copied_in, is_slot, is_overdrive}
+use Rattle.bus.specs.Bus.{Device, event_of, hears, unheard_state, next_state, next_body, copied_in, is_slot, is_overdrive}
 use Rattle.bus.specs.Loops.{heard_state_as_is, heard_body_as_is, heard_copied_as_is, slot_byte, kind_in, body_in, ends_in, shifts_in, pass_state}
 use Rattle.bus.specs.Loops.{next_state_as_is, next_body_as_is, passed_over, place_in, device_at_place, device_in, image_with_body, turn_state, turn_image}
 use Rattle.bus.specs.Loops.{slot_turn, copied_as_is, turn_copied, most_copied, added_to, copied_up_to}

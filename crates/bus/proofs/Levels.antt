@@ -1,14 +1,14 @@
 -- The scan of `level`: it makes as many turns as devices are looked at, and then the level and that number are those
 -- that `scan_on` names. Assumes nothing.
-use Prim.Native.Nat.{ℕ, zero, suc, ◌+◌, ◌<◌, ◌≤◌}
+use Prim.Native.Nat.{ℕ, zero, suc, ◌<◌, ◌≤◌}
 use mathlib.Core.Path.{◌≡◌, refl, sym, ap, subst, ◌∙◌}
 use mathlib.Core.Bool.{Bool, true, false, cond, ◌&&◌}
 use mathlib.Core.List.{List, [], ◌∷◌}
 use native.Mathlib.Omega.{arith}
-use lib.ListN.{length, take, get_or}
+use lib.ListN.{length, take}
 use lib.Seq.{take_all, take-length, length-take-le, get_or-take}
 use lib.Dec.{ltb}
-use borrow.Author.Tests.{lt-ltb, le-ltb, ltb-false}
+use borrow.Author.Tests.{lt-ltb, le-ltb, ltb-true, ltb-false}
 use Rattle.line.proofs.Range.{false-true}
 use Rattle.device.specs.declared.LineState.{LineState}
 use Rattle.device.specs.Device.{waiting_state}
@@ -131,6 +131,24 @@ module _ (event : Event) where
     pub scan-high : high_after lines scan_end ≡ all_high event (take m lines)
     scan-high = sym (high_part lines m scan_end end-few) ∙ looked-all (take m lines)
 
+    -- where it goes on it is before its end, and where it does not it is there
+    pub scan_before : (i : ℕ) → i ≤ scan_end → goes_on_at (high_after lines i) i m ≡ true → i < scan_end
+    scan_before i h e = choose (ltb i scan_end) refl
+      where
+        choose : (b : Bool) → ltb i scan_end ≡ b → i < scan_end
+        choose true g = ltb-true i scan_end g
+        choose false g =
+            let here : scan_end ≡ i = omega (arith, h, ltb-false i scan_end g) in
+            let off : goes_on_at (high_after lines i) i m ≡ false = subst (λ (k : ℕ). goes_on_at (high_after lines k) k m ≡ false) here scan-ends in
+            false-true (sym off ∙ e)
+
+    pub scan_there : (i : ℕ) → i ≤ scan_end → goes_on_at (high_after lines i) i m ≡ false → i ≡ scan_end
+    scan_there i h e = choose (ltb i scan_end) refl
+      where
+        choose : (b : Bool) → ltb i scan_end ≡ b → i ≡ scan_end
+        choose true g = false-true (sym e ∙ scan-goes i (ltb-true i scan_end g))
+        choose false g = omega (arith, h, ltb-false i scan_end g)
+
 -- ---- the level and the number
 
 -- a level and a number, as one
@@ -175,3 +193,31 @@ scan-is lines n byte =
     at-event (event_of byte) lines (fewer_of n (length lines)) (fewer-second n (length lines))
     ∙ ap (λ (xs : List LineState). scan (level_as_is (event_of byte) xs) (looked_as_is (event_of byte) xs))
     (fewer-take lines n (ltb n (length lines)) refl)
+
+-- ---- what the loop of `level` keeps
+
+-- where it goes on there is a device to look at, and where it ends the scan is made
+module _ (lines : List LineState) (n byte served m i : ℕ) (high on : Bool)
+    (of_served : served ≡ fewer_of n (length lines)) (of_asked : m ≡ asked_of (event_of byte) served)
+    (in_range : i ≤ up_to_low (event_of byte) (take m lines)) (so_far : high ≡ high_after (event_of byte) lines i)
+    (test : on ≡ goes_on_at high i m) where
+  some_asked : m ≤ length lines
+  some_asked = omega (arith, of_served, of_asked, asked-few (event_of byte) served, fewer-second n (length lines))
+
+  goes_so : goes_on_at (high_after (event_of byte) lines i) i m ≡ on
+  goes_so = ap (λ (b : Bool). goes_on_at b i m) (sym so_far) ∙ sym test
+
+  pub scan_turn : on ≡ true → (i < up_to_low (event_of byte) (take m lines)) × ((i < m) × (i < length lines))
+  scan_turn e =
+      let small = scan_before (event_of byte) lines m some_asked i in_range (goes_so ∙ e) in
+      let few = end-few (event_of byte) lines m some_asked in
+      (small, (omega (arith, small, few), omega (arith, small, few, some_asked)))
+
+  pub scan_result : on ≡ false → scan_where (event_of byte) high i ≡ scan_on lines n byte
+  scan_result e =
+      let at = scan_there (event_of byte) lines m some_asked i in_range (goes_so ∙ e) in
+      let whole : m ≡ asked_of (event_of byte) (fewer_of n (length lines)) = of_asked ∙ ap (asked_of (event_of byte)) of_served in
+      ap (λ (b : Bool). scan_where (event_of byte) b i) so_far
+      ∙ ap (λ (k : ℕ). scan_where (event_of byte) (high_after (event_of byte) lines k) k) at
+      ∙ ap (λ (k : ℕ). let c : ℕ = up_to_low (event_of byte) (take k lines) in scan_where (event_of byte) (high_after (event_of byte) lines c) c) whole
+      ∙ scan-is lines n byte

@@ -3,6 +3,7 @@ pub mod Kept
 pub mod Laws
 pub mod Levels
 pub mod Looked
+pub mod Loops
 pub mod Ranges
 pub mod Runs
 pub mod Shown

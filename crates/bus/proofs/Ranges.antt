@@ -10,15 +10,14 @@ use Prim.Native.Nat.{ℕ, zero, suc}
 use mathlib.Core.Path.{◌≡◌, refl, sym, ap, ◌∙◌}
 use mathlib.Core.Bool.{Bool, true, false, cond, not, ◌&&◌, ◌||◌}
 use mathlib.Core.List.{List, [], ◌∷◌, ◌++◌, map}
-use lib.ListN.{length, take, drop}
-use Rattle.kind.specs.Kind.{body_size}
+use lib.ListN.{take, drop}
 use Rattle.device.specs.declared.LineState.{LineState}
 use Rattle.device.specs.Device.{line_state_in_range, sends_of}
 use Rattle.device.proofs.Range.{sized, taken-as-is, overdrive-reset-in-range}
 use Rattle.device.proofs.Range.{step-in-range, reset-in-range, pulse-in-range, waiting-in-range, sends-same, step_same, write_same, copies-same, reset-same, pulse-same, program-same}
 use Rattle.bus.specs.declared.Event.{Event}
 use Rattle.bus.specs.declared.Event.TheVariants.{Slot, Reset, Pulse, OverdriveSlot, OverdriveReset}
-use Rattle.bus.specs.Bus.{Device, device_with, event_of, hears, answers_low, taken_state, heard_state, heard_body, unheard_state, pulls_low, some_low, master_high, level_of, next_state, next_body, next_device, bus_step_at, bus_step, with_answer, run_trace}
+use Rattle.bus.specs.Bus.{Device, event_of, hears, answers_low, taken_state, heard_state, heard_body, unheard_state, pulls_low, some_low, master_high, level_of, next_state, next_body, next_device, bus_step_at, bus_step, with_answer, run_trace}
 use Rattle.bus.specs.Bus.{up_to_first_low, read_slot, looked_at, heard_copied, copied_in}
 use Rattle.bus.specs.Run.{states_of}
 use Rattle.bus.specs.Loops.{heard_state_as_is, heard_body_as_is, heard_copied_as_is, next_state_as_is, next_body_as_is, answers_high, leaves_high, all_high, level_as_is}

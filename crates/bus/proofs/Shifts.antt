@@ -1,17 +1,17 @@
 -- The devices that a slot only shifts or passes over, up to the first to which more happens: how many they are, and that
 -- their turns are those of `turns_up_to`. Assumes nothing.
-use Prim.Native.Nat.{ℕ, zero, suc, ◌+◌, ◌-◌, ◌<◌, ◌≤◌}
+use Prim.Native.Nat.{ℕ, zero, suc, ◌+◌, ◌<◌, ◌≤◌}
 use mathlib.Core.Path.{◌≡◌, refl, sym, ap, subst, ◌∙◌}
 use mathlib.Core.Bool.{Bool, true, false, not, cond, and-false, true≢false}
 use mathlib.Core.List.{List, [], ◌∷◌}
 use native.Mathlib.Omega.{arith}
 use lib.ListN.{length, set, length-set}
-use lib.Dec.{eqb, ltb}
+use lib.Dec.{eqb}
 use borrow.Author.Tests.{ne_eqb, lt-ltb}
 use Rattle.line.specs.Transfers.{shifted}
 use Rattle.device.specs.declared.LineState.{LineState}
 use Rattle.device.specs.Device.{line_state, waits}
-use Rattle.bus.specs.Loops.{slot_byte, moves_in, ends_in, shifts_in, pass_state, passes_from, shifted_from, line_at, BusState, bus_state, turn_state, turn_image}
+use Rattle.bus.specs.Loops.{slot_byte, moves_in, ends_in, shifts_in, pass_state, passes_from, shifted_from, line_at, BusState, bus_state, turn_state}
 use Rattle.bus.specs.Loops.{turn_at, turns_up_to, turn_copied, copied_up_to, added_to}
 use Rattle.bus.proofs.Idle.{pass-state, pass-image, pass-copied, added_none}
 use Rattle.bus.proofs.States.{steps}

@@ -25,7 +25,7 @@ use Rattle.bus.specs.Bus.{looked_at, copied_in, copied_by_all, copied_in_trace}
 use Rattle.bus.specs.Run.{devices_from, waiting_devices, table_of_contents, bodies_of, states_of, run_result, run_outcome, left_by_run, run_at, run_of, RunOutcome, RunLeaves}
 use Rattle.bus.specs.Refusal.{some_byte, bad_trace, no_first_reset, bad_pulse, run_refusal}
 use Rattle.bus.specs.Loops.{passed_over, next_state_as_is, next_body_as_is, place_in, device_at_place, device_in, image_with_body, turn_state, turn_image, level_as_is, level_on, line_at, BusState, bus_state, turn_at, turns_up_to, filled_up_to, RunState, run_state, run_event_at, run_events_up_to}
-use Rattle.bus.specs.Loops.{looked_as_is, looked_on, fewer_of, step_on}
+use Rattle.bus.specs.Loops.{looked_as_is, looked_on, fewer_of}
 use Rattle.bus.specs.Loops.{copied_as_is, turn_copied, most_copied, added_to, copied_up_to, copied_on, copied_by_events}
 use Rattle.bus.specs.declared.RunResult.{RunResult}
 use Rattle.device.proofs.Range.{waiting-in-range}

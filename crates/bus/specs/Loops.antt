@@ -1,7 +1,7 @@
 -- Nothing here is from document 01. These definitions say what the functions of `src/` below `run` do, for any image
 -- and any line states, with each loop's state by recursion on how many turns it has made. Where the image is not
 -- refused and there is room, this is what `Bus.antt` and `Run.antt` say (`proofs/Shown.antt`).
-use Rattle.std.specs.Prelude.{ℕ, zero, suc, ◌+◌, ◌-◌, ◌*◌, Bool, true, false, not, cond, ◌&&◌, ◌||◌, List, [], ◌∷◌, ◌++◌, map, length, get_or, set, take, drop, eqb, ltb, leb}
+use Rattle.std.specs.Prelude.{ℕ, zero, suc, ◌+◌, ◌-◌, ◌*◌, Bool, true, false, not, cond, ◌&&◌, ◌||◌, List, [], ◌∷◌, ◌++◌, length, get_or, set, take, drop, eqb, ltb, leb}
 use Rattle.std.specs.Bool.{beq}
 use Rattle.bits.specs.Bit.{level_byte}
 use Rattle.kind.specs.declared.Kind.{Kind}

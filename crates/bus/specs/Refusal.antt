@@ -1,6 +1,6 @@
 -- Document 01, 'Refusals in order', and document 02, items 6 and 9, are stated here: the causes 5, 11, 6 and 7, each
 -- over the whole input. They come after the causes that the image alone can give.
-use Rattle.std.specs.Prelude.{ℕ, Bool, true, false, not, ◌&&◌, ◌||◌, List, [], ◌∷◌, ◌++◌, length, eqb, ltb}
+use Rattle.std.specs.Prelude.{ℕ, Bool, false, not, ◌&&◌, ◌||◌, List, [], ◌∷◌, ◌++◌, length, eqb, ltb}
 use Rattle.kind.specs.Kind.{is_eprom}
 use Rattle.image.specs.Image.{count_of, kind_at}
 use Rattle.image.specs.Refusal.{some_below, Cause, cause, first_cause, image_causes}

@@ -206,6 +206,8 @@ map_at f (x ∷ xs) (suc i) h = map_at f xs i (omega arith)
 
 pub same_at : (xs ys : List Device) → AllSame xs ys → (i : ℕ) → i < length ys → Same (device_at xs i) (device_at ys i)
 same_at [] [] none i h = absurd (omega arith)
+same_at [] (y ∷ ys) p i h = elim p [ ]
+same_at (x ∷ xs) [] p i h = elim p [ ]
 same_at (x ∷ xs) (y ∷ ys) (also a p) zero h = a
 same_at (x ∷ xs) (y ∷ ys) (also a p) (suc i) h = same_at xs ys p i (omega arith)
 

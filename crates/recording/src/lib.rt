@@ -1,13 +1,12 @@
 // This crate is the reader of a recorded session: a struct that holds the trace that a program sent, the answers that
 // it recorded, and a place in both. A reader begins before the first event, is asked at each event, and moves on to the
-// next. The functions over the struct are thin and proved by hand; the work is done by functions over plain slices and
-// numbers.
+// next. The functions over the struct are thin; the work is done by functions over plain slices and numbers.
 #![tactic(auto)]
 
 ghost use Rattle.std.specs.Prelude.{◌≡◌, length};
 ghost use Rattle.recording.specs.Recorded.{agrees_at, next_at};
 
-#[derive(Drop)]
+#[derive(Clone, Copy)]
 pub struct Recording<'a, 'b> {
     trace: &'a [u8],
     answers: &'b [u8],

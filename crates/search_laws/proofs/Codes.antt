@@ -107,7 +107,7 @@ branch-length m ((false ∷ c) ∷ S) w = let h = branch-length m S (wide-tail (
 
 -- ---- a bit put in front of each code
 
-map-member : (b : Bool) (L : List Code) {c : Code} → Memᴰ c L → Memᴰ (b ∷ c) (map (λ (r : Code). b ∷ r) L)
+map-member : (b : Bool) {c : Code} (L : List Code) → Memᴰ c L → Memᴰ (b ∷ c) (map (λ (r : Code). b ∷ r) L)
 map-member b L (Memᴰ.head e) = Memᴰ.head (ap (λ (r : Code). b ∷ r) e)
 map-member b L (Memᴰ.tail {xs = L'} h) = Memᴰ.tail (map-member b L' h)
 

@@ -1,6 +1,5 @@
 use Rattle.bus.specs.Loops.{added_to}
 use borrow.Author.Tests.{lt-ltb, le-ltb}
-use borrow.Author.Rules.{rules}
 use Rattle.bus.proofs.added.Goals as goal
 
 pub returns-then-sum-bytes : goal.returns-then-sum-bytes

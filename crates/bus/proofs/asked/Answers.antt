@@ -1,5 +1,4 @@
 use mathlib.Core.Path.{◌∙◌, sym}
-use borrow.Author.Rules.{rules}
 use borrow.Author.Tests.{not-true, not-false}
 use Rattle.bus.specs.Bus.{event_of, master_high}
 use Rattle.bus.specs.Loops.{asked_of}

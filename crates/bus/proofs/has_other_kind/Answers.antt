@@ -3,10 +3,8 @@ use Rattle.image.proofs.Laws.{some_at, some_more}
 use Rattle.image.specs.Refusal.{some_below}
 use Rattle.image.specs.Image.{entry_of, kind_at, count_of}
 use Rattle.image.specs.declared.Entry.{Entry}
-use borrow.Author.Tests.{not-true, not-false}
-use borrow.Author.Rules.{rules}
 use native.Mathlib.Omega.{arith}
-use Prim.Native.Nat.{ℕ, ◌≤◌, ◌-◌}
+use Prim.Native.Nat.{ℕ}
 use mathlib.Core.Bool.{true, false, not}
 use mathlib.Core.Path.{◌≡◌, refl, sym, ap, ◌∙◌}
 use Rattle.bus.proofs.has_other_kind.Goals as goal

@@ -1,11 +1,6 @@
-use Prim.Native.Nat.{◌≤◌, ◌-◌}
-use mathlib.Core.Path.{◌≡◌, refl, ◌∙◌}
-use mathlib.Core.Bool.{◌||◌}
+use mathlib.Core.Path.{refl}
 use native.Mathlib.Omega.{arith}
-use lib.ListN.{length, drop}
 use lib.Dec.{ltb}
-use borrow.Author.Rules.{rules}
-use Rattle.bus.specs.Refusal.{some_byte}
 use Rattle.bus.proofs.Laws.{byte_more, byte-end}
 use Rattle.bus.proofs.has_unknown_event.Goals as goal
 

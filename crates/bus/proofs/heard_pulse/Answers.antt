@@ -2,8 +2,6 @@ use Rattle.bus.specs.Loops.{image_with_body, body_in}
 use borrow.Rule.Slice.PartMut.{Post-is}
 use Rattle.bus.proofs.Laws.{inside_of}
 use native.Mathlib.Omega.{arith}
-use mathlib.Core.Path.{refl}
-use borrow.Author.Rules.{rules}
 use Rattle.bus.proofs.heard_pulse.Goals as goal
 
 pub slice_bounds-pulse_as_is-count : goal.slice_bounds-pulse_as_is-count

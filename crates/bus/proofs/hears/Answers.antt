@@ -1,6 +1,5 @@
 use Rattle.bus.specs.Bus.{hears}
-use mathlib.Core.Path.{refl, sym, ◌∙◌}
-use borrow.Author.Rules.{rules}
+use mathlib.Core.Path.{sym, ◌∙◌}
 use Rattle.bus.proofs.hears.Goals as goal
 
 pub returns-in-Slot : goal.returns-in-Slot

@@ -1,6 +1,5 @@
 use Rattle.bus.specs.Refusal.{bad_pulse}
 use mathlib.Core.Path.{◌∙◌, sym}
-use borrow.Author.Rules.{rules}
 use Rattle.bus.proofs.is_bad_pulse.Goals as goal
 
 pub returns-then-has_pulse : goal.returns-then-has_pulse

@@ -1,6 +1,5 @@
 use Rattle.bus.specs.Refusal.{bad_trace}
 use borrow.Author.Tests.{le-ltb, lt-ltb}
-use borrow.Author.Rules.{rules}
 use Rattle.bus.proofs.is_bad_trace.Goals as goal
 
 pub returns-then-trace-gt-MOST_EVENTS : goal.returns-then-trace-gt-MOST_EVENTS

@@ -1,7 +1,6 @@
 use Rattle.bus.proofs.Laws.{no-first-event, first-event}
 use mathlib.Core.Path.{sym}
 use native.Mathlib.Omega.{arith}
-use borrow.Author.Rules.{rules}
 use Rattle.bus.proofs.lacks_first_reset.Goals as goal
 
 pub returns-then-trace-eq0 : goal.returns-then-trace-eq0

@@ -1,6 +1,5 @@
 use Rattle.bus.specs.Refusal.{no_run_room}
 use borrow.Author.Tests.{le-ltb, lt-ltb}
-use borrow.Author.Rules.{rules}
 use Rattle.bus.proofs.lacks_room.Goals as goal
 
 pub returns-then-answers-trace : goal.returns-then-answers-trace

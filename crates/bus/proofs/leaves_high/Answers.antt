@@ -1,7 +1,5 @@
 use mathlib.Core.Path.{◌≡◌, refl, ◌∙◌, sym, ap}
 use mathlib.Core.Bool.{Bool, true, false, not, ◌||◌}
-use borrow.Author.Rules.{rules}
-use Rattle.device.specs.declared.LineState.{LineState}
 use Rattle.device.specs.Device.{sends_as_is}
 use Rattle.bus.specs.declared.Event.{Event}
 use Rattle.bus.specs.Bus.{event_of}

@@ -1,6 +1,5 @@
 use mathlib.Core.Path.{ap}
 use mathlib.Core.Bool.{not}
-use borrow.Author.Rules.{rules}
 use Rattle.bus.specs.Loops.{moves_in}
 use Rattle.bus.proofs.moves_in.Goals as goal
 

@@ -10,7 +10,6 @@ use native.Mathlib.Omega.{arith}
 use Rattle.bus.specs.Loops.{place_in}
 use Rattle.image.specs.Image.{entry_of, family_at, flat_at, offset_at, kind_at, count_of}
 use Rattle.image.proofs.Laws.{size-bound}
-use borrow.Author.Rules.{rules}
 use Rattle.bus.proofs.place_of.Goals as goal
 
 pub overflow_add-end : goal.overflow_add-end

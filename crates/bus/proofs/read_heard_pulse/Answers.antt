@@ -1,8 +1,6 @@
 use Rattle.bus.specs.Loops.{body_in}
 use Rattle.bus.proofs.Laws.{inside_of}
 use native.Mathlib.Omega.{arith}
-use mathlib.Core.Path.{refl}
-use borrow.Author.Rules.{rules}
 use Rattle.bus.proofs.read_heard_pulse.Goals as goal
 
 pub slice_bounds-pulsed_as_is-count : goal.slice_bounds-pulsed_as_is-count

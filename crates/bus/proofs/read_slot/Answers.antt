@@ -1,6 +1,5 @@
-use mathlib.Core.Path.{refl, sym, ◌∙◌}
+use mathlib.Core.Path.{◌∙◌}
 use native.Mathlib.Omega.{arith}
-use borrow.Author.Rules.{rules}
 use Rattle.bus.proofs.Idle.{own-heard, other-unheard, unheard-slot-state, ends-busy, ends-lost, heard-slot-state}
 use Rattle.bus.proofs.Laws.{inside_of, place-has}
 use Rattle.bus.proofs.read_slot.Goals as goal

@@ -1,6 +1,5 @@
-use mathlib.Core.Path.{refl, ap}
+use mathlib.Core.Path.{ap}
 use mathlib.Core.Bool.{true}
-use borrow.Author.Rules.{rules}
 use Rattle.bus.specs.Bus.{event_of}
 use Rattle.bus.specs.Loops.{heard_state_as_is, device_at_place, device_in, kind_in, body_in}
 use Rattle.bus.proofs.Idle.{other-pulse, heard-state}

@@ -2,7 +2,6 @@ use Rattle.bus.proofs.Laws.{first_some, run-causes}
 use Rattle.bus.specs.Refusal.{run_causes, run_refusal}
 use Rattle.image.specs.Refusal.{image_refusal}
 use mathlib.Core.Path.{sym, ◌∙◌}
-use borrow.Author.Rules.{rules}
 use Rattle.bus.proofs.refusal.Goals as goal
 
 pub returns-then-number-ne-ACCEPTED : goal.returns-then-number-ne-ACCEPTED

@@ -1,6 +1,4 @@
-use mathlib.Core.Path.{◌∙◌, sym, ap}
-use mathlib.Core.Bool.{Bool}
-use borrow.Author.Rules.{rules}
+use mathlib.Core.Path.{◌∙◌, sym}
 use Rattle.bus.specs.Bus.{event_of, master_high}
 use Rattle.bus.specs.Loops.{scan_where, asked_of}
 use Rattle.bus.proofs.Tests.{slot_read, other-read, not-not}

@@ -1,6 +1,5 @@
-use mathlib.Core.Path.{refl, sym, ◌∙◌}
+use mathlib.Core.Path.{◌∙◌}
 use native.Mathlib.Omega.{arith}
-use borrow.Author.Rules.{rules}
 use borrow.Rule.Slice.PartMut.{Post-is}
 use Rattle.device.specs.Device.{bytes_in_slot_as_is}
 use Rattle.bus.specs.Loops.{slot_turn, image_with_body}

@@ -1,0 +1,7 @@
+use Rattle.judge.specs.Loops.{line_next}
+use borrow.Author.Rules.{rules}
+use Rattle.judge.proofs.line_next.Goals as goal
+
+pub returns : goal.returns
+unfolding line_next
+returns c = simp (c.after_event.ensures, c.level_at.ensures, c.byte_at.ensures)
