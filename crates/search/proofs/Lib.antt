@@ -1,5 +1,3 @@
 pub mod Counts
 pub mod Loop
-pub mod Until
 pub mod Shown
-pub mod Shapes

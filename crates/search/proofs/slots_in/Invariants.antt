@@ -1,0 +1,17 @@
+use Prim.Native.Nat.{◌+◌, ◌-◌, ◌≤◌}
+use mathlib.Core.Path.{◌≡◌}
+use native.Mathlib.Omega.{arith}
+use lib.ListN.{length, drop}
+use lib.Seq.{drop-length}
+use borrow.Author.Rules.{rules}
+use Rattle.search_laws.specs.Words.{slots_in, is_slot}
+use Rattle.search.proofs.Counts.{slots_next}
+use Rattle.search.proofs.slots_in.Given as goal
+
+abbrev pub invariant-loop-i : goal.invariant-loop-i
+invariant-loop-i l =
+    (l.i ≤ length l.trace) × (l.count ≤ l.i) × (l.count + slots_in (drop l.i l.trace) ≡ slots_in l.trace)
+
+abbrev pub decreases-loop-i : goal.decreases-loop-i
+decreases-loop-i l =
+    length l.trace - l.i
