@@ -95,7 +95,11 @@ unfoldable pub place_in : List ℕ → ℕ → Place
 place_in image i =
     cond (ltb i (count_of image)
     && (ltb (5 + 4 * i) (length image) && leb (offset_at image i + body_size (kind_at image i)) (length image)))
-    (record { kind = kind_at image i; start = offset_at image i; end = offset_at image i + body_size (kind_at image i) })
+    (record {
+      kind = kind_at image i;
+      start = offset_at image i;
+      end = offset_at image i + body_size (kind_at image i);
+    })
     (record { kind = Unknown; start = 0; end = 0 })
 
 unfoldable pub device_at_place : List ℕ → Place → LineState → Device
@@ -271,8 +275,8 @@ turn_states_of image lines n byte level = turn_states_from image 0 (take n lines
 
 -- ---- a trace
 
--- Image, answers and line states change together: `run_event_at` is event k of a trace on n devices, and `run_events_up_to`
--- are the first k events.
+-- Image, answers and line states change together: `run_event_at` is event k of a trace on n devices, and
+-- `run_events_up_to` are the first k events.
 pub record RunState : Type 0 where
   pub image : List ℕ
   pub answers : List ℕ

@@ -76,8 +76,8 @@ unfoldable pub stage_reset : Stage → List ℕ → List ℕ
 stage_reset (Rom r) body = body
 stage_reset (Memory m) body = memory_reset m body
 
--- A program pulse does nothing elsewhere than in a DS1982's memory function. The transfer after it is `stage_pulse`, and
--- the body after it is `stage_program`.
+-- A program pulse does nothing elsewhere than in a DS1982's memory function. The transfer after it is `stage_pulse`,
+-- and the body after it is `stage_program`.
 unfoldable pub memory_pulse : MemoryStage → Transfer → List ℕ → Transfer
 memory_pulse Command transfer body = transfer
 memory_pulse (Sram s) transfer body = transfer

@@ -36,7 +36,8 @@ read_latch read address =
 
 -- After a CRC come the bytes from `address` on, with a CRC of their own; past the field's end come ones.
 unfoldable pub after_crc : EpromRead → ℕ → List ℕ → Transfer
-after_crc read address body = cond (ltb address (field_length (field_read read))) (send_byte read address 0 body) waiting
+after_crc read address body =
+    cond (ltb address (field_length (field_read read))) (send_byte read address 0 body) waiting
 
 -- A CRC comes where the next byte would be past the field's end, or with C3h past the page's.
 unfoldable pub ends_span : EpromRead → ℕ → Bool

@@ -52,7 +52,8 @@ programmed_byte field address byte body =
 
 -- A pulse leaves the body with the programmed byte in its place.
 unfoldable pub programmed_body : Field → ℕ → ℕ → List ℕ → List ℕ
-programmed_body field address byte body = set body (field_start field + address) (programmed_byte field address byte body)
+programmed_body field address byte body =
+    set body (field_start field + address) (programmed_byte field address byte body)
 
 -- After a pulse the device sends the stored byte.
 unfoldable pub send_stored : Field → ℕ → List ℕ → Transfer

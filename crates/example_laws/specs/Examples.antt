@@ -32,4 +32,5 @@ pub record Examples : Type 0 where
   pub empty-trace : (image answers : List ℕ) (lines : List LineState) → image_refusal image ≡ 0
       → count_of image ≤ length lines
       → run_of image [] answers lines
-      ≡ run_outcome (run_result 0 0) image answers (replicate (count_of image) waiting_state ++ drop (count_of image) lines)
+      ≡ run_outcome (run_result 0 0) image answers
+      (replicate (count_of image) waiting_state ++ drop (count_of image) lines)

@@ -89,7 +89,8 @@ accepted_rows =
     -- A write that is cut before its 16th address bit is none, and does not end the one before it.
     ∷ recorded blank_ds1992 (two_written ++ read_back 0x07 ++ skip (0x0F ∷ 0x26 ∷ []) ++ copied 0x07) Accepted
     -- A target that read memory moves away and back (document 02, item 3) does no harm.
-    ∷ recorded blank_ds1992 (two_written ++ read_back 0x07 ++ target_moved 0x00 ++ target_moved 0x26 ++ copied 0x07) Accepted
+    ∷ recorded blank_ds1992
+    (two_written ++ read_back 0x07 ++ target_moved 0x00 ++ target_moved 0x26 ++ copied 0x07) Accepted
     -- No bytes lie between T4:T0, which is 1Eh, and the ending offset 07h, so that the registers suffice.
     ∷ recorded blank_ds1992
     (two_written

@@ -75,7 +75,8 @@ mismatch_from_overdrive =
 -- received three bits of a data byte, and PF stays as it was.
 abbrev pub fallen_back : Row
 fallen_back =
-    session blank_ds1996 (part_write ++ write_bits 1 1 ∷ unheard_reset ∷ overdrive_read (0xFF ∷ []) ∷ []) (part_written 0x07)
+    session blank_ds1996
+    (part_write ++ write_bits 1 1 ∷ unheard_reset ∷ overdrive_read (0xFF ∷ []) ∷ []) (part_written 0x07)
 
 -- An overdrive reset after three bits of a data byte sets PF, and so does a regular reset.
 abbrev pub cut_by_overdrive_reset : Row
@@ -166,5 +167,6 @@ refused_rows =
 
 abbrev pub overdrive_rows : List Row
 overdrive_rows =
-    overdrive_copy ∷ overdrive_matched ∷ mismatch_from_regular ∷ mismatch_from_overdrive ∷ fallen_back ∷ cut_by_overdrive_reset
-    ∷ cut_by_regular_reset ∷ side_by_side ∷ read_last_of8192 ∷ flat_at_overdrive ∷ unheard_rows ++ refused_rows
+    overdrive_copy ∷ overdrive_matched ∷ mismatch_from_regular ∷ mismatch_from_overdrive ∷ fallen_back
+    ∷ cut_by_overdrive_reset ∷ cut_by_regular_reset ∷ side_by_side ∷ read_last_of8192 ∷ flat_at_overdrive
+    ∷ unheard_rows ++ refused_rows

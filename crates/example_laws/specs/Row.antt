@@ -25,7 +25,8 @@ pub data Row : Type 0 where
 -- none that writes any.
 abbrev pub copying : List ℕ → List SessionStep → List ℕ → ℕ → Row
 copying image steps after copied =
-    run image (events_of_steps (steps ++ reset ∷ [])) (levels_of_steps (steps ++ reset ∷ [])) after at_rom_command copied
+    run image (events_of_steps (steps ++ reset ∷ [])) (levels_of_steps (steps ++ reset ∷ [])) after at_rom_command
+    copied
 
 abbrev pub session : List ℕ → List SessionStep → List ℕ → Row
 session image steps after = copying image steps after 0

@@ -156,7 +156,8 @@ cut_address_rows =
 -- the CRC of 0F 05 00 A5, and the DS1992 receives it as the next byte of its scratchpad, while the master sends ones.
 abbrev pub written_both : List ℕ → List ℕ → List ℕ
 written_both registers scratchpad =
-    ds1992_and_ds1982 (sram_body ds1992_code registers scratchpad (zeros 128)) (eprom_body ds1982_code (ones 8) (ones 128))
+    ds1992_and_ds1982 (sram_body ds1992_code registers scratchpad (zeros 128))
+    (eprom_body ds1982_code (ones 8) (ones 128))
 
 -- After AAh the DS1992 sends TA1 and TA2, 05 00, and the DS1982 receives them as the address of read status. Then the
 -- DS1992 sends ones (E/S, scratchpad), and the DS1982 the CRC of AA 05 00, status bytes 5 to 7, and their CRC.
@@ -364,5 +365,5 @@ abbrev pub table : List Row
 table =
     example1 ++ example2 ++ example3 ++ example4 ++ example5 ++ example6 ++ example7 ++ example8 ++ example9
     ++ example10 ++ example11
-    ++ cut_address_rows ++ listener ++ read_loads_target ++ one_copy ++ copy_rows ++ reads ++ writes ++ begun_before_a_reset
-    ++ flat_rows ++ overdrive_rows
+    ++ cut_address_rows ++ listener ++ read_loads_target ++ one_copy ++ copy_rows ++ reads ++ writes
+    ++ begun_before_a_reset ++ flat_rows ++ overdrive_rows

@@ -176,7 +176,8 @@ back_over back overdrive = back_to back.end back.shown back.decided overdrive
 -- A part begins at the speed of its reset, and ends before event `end`.
 unfoldable pub part_from : List ℕ → List ℕ → Kind → List ℕ → ℕ → ℕ → Part
 part_from trace answers kind body end j =
-    part_over trace answers kind body end (reset_at (eqb (get_or trace j 0) 6)) (part_so false false) (suc j) (end - suc j)
+    part_over trace answers kind body end (reset_at (eqb (get_or trace j 0) 6)) (part_so false false) (suc j)
+    (end - suc j)
 
 -- Event j is looked at.
 unfoldable pub back_at : List ℕ → List ℕ → Kind → List ℕ → ℕ → Back → Back

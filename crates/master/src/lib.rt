@@ -363,7 +363,8 @@ impl Master {
 
     // One step is given the level of the event that was sent last; nonzero counts as 1.
     pub fn step(self, level: u8) -> Step
-        ensures { (result ≡ step_of self level) × (answer_value result.answer ≡ master_answer (next_master self level)) }
+        ensures { (result ≡ step_of self level)
+            × (answer_value result.answer ≡ master_answer (next_master self level)) }
     {
         let next = self.after(level != 0);
         let stage = next.stage;

@@ -5,7 +5,7 @@
 // printed is compared with a stored text.
 #![tactic(auto)]
 
-use libc::STDOUT_FILENO;
+use std::io;
 
 // The first body starts after the count, the edition and three entries of four bytes.
 const FIRST: u16 = 14;
@@ -16,8 +16,8 @@ const THIRD: u16 = SECOND + 171;
 
 const LENGTH: usize = 473;
 
-fn print(text: &[u8]) {
-    io::write_all(STDOUT_FILENO, text);
+fn print(rt: HostRuntime, text: &[u8]) -> io::Result<()> {
+    rt.stdout().write_all(text)
 }
 
 // These are the first n bytes of a slice.
@@ -25,13 +25,13 @@ fn first(s: &[u8], n: usize) -> &[u8] {
     if n <= s.len() { &s[0..n] } else { s }
 }
 
-fn print_code(code: &[u8; 8]) {
+fn print_code(rt: HostRuntime, code: &[u8; 8]) -> io::Result<()> {
     let mut i = 0;
     while i < 8 {
-        io::print_hex(STDOUT_FILENO, bits::byte_at(code, i) as u64, 2);
-        print(b" ");
+        print!(rt; "{:02x} ", bits::byte_at(code, i))?;
         i += 1;
     }
+    Ok(())
 }
 
 // This counts how many of the 64 codes that differ in one bit are refused.
@@ -50,22 +50,20 @@ fn refused_damages(code: [u8; 8]) -> u64 {
     refused
 }
 
-fn print_answer(yes: bool) {
+fn print_answer(rt: HostRuntime, yes: bool) -> io::Result<()> {
     if yes {
-        print(b"yes");
+        print(rt, b"yes")
     } else {
-        print(b"no");
+        print(rt, b"no")
     }
 }
 
-fn check(code: [u8; 8]) {
-    print_code(&code);
-    print_answer(bits::registration_check(&code));
-    print(b", first 7 bytes ");
-    print_answer(bits::registration_check(first(&code, 7)));
-    print(b", one-bit damages refused ");
-    io::print_decimal(STDOUT_FILENO, refused_damages(code));
-    print(b"\n");
+fn check(rt: HostRuntime, code: [u8; 8]) -> io::Result<()> {
+    print_code(rt, &code)?;
+    print_answer(rt, bits::registration_check(&code))?;
+    print(rt, b", first 7 bytes ")?;
+    print_answer(rt, bits::registration_check(first(&code, 7)))?;
+    println!(rt; ", one-bit damages refused {}", refused_damages(code))
 }
 
 // This is a code of a family and a serial number of one byte, with its CRC.
@@ -128,83 +126,91 @@ fn with_code(image: [u8; LENGTH], start: u16, code: [u8; 8]) -> [u8; LENGTH] {
     changed
 }
 
-fn report(label: &[u8], image: &[u8]) {
-    print(label);
-    print(b": ");
-    io::print_decimal(STDOUT_FILENO, image::refusal(image) as u64);
-    print(b"\n");
+fn report(rt: HostRuntime, label: &[u8], image: &[u8]) -> io::Result<()> {
+    print(rt, label)?;
+    println!(rt; ": {}", image::refusal(image))
 }
 
 // This reports the refusal of the first n bytes of an image of three devices.
-fn report_first(label: &[u8], image: [u8; LENGTH], n: usize) {
-    report(label, first(&image, n));
+fn report_first(rt: HostRuntime, label: &[u8], image: [u8; LENGTH], n: usize) -> io::Result<()> {
+    report(rt, label, first(&image, n))
 }
 
-fn small_images() {
-    report(b"no bytes", b"");
-    report(b"one byte", b"\x00");
-    report(b"00 01", b"\x00\x01");
-    report(b"00 02", b"\x00\x02");
-    report(b"00 01 00", b"\x00\x01\x00");
+fn small_images(rt: HostRuntime) -> io::Result<()> {
+    report(rt, b"no bytes", b"")?;
+    report(rt, b"one byte", b"\x00")?;
+    report(rt, b"00 01", b"\x00\x01")?;
+    report(rt, b"00 02", b"\x00\x02")?;
+    report(rt, b"00 01 00", b"\x00\x01\x00")?;
     let mut image = [0u8; 177];
     image[0] = 1;
     image[1] = 1;
     place(&mut image, 0, 6, code_of(0x08, 1));
-    report(b"one DS1992, 177 bytes", &image);
-    report(b"its first 176 bytes", first(&image, 176));
+    report(rt, b"one DS1992, 177 bytes", &image)?;
+    report(rt, b"its first 176 bytes", first(&image, 176))
 }
 
 // Each cause comes alone. In the last the equal codes are those of devices that are not neighbours.
-fn single_causes(image: [u8; LENGTH]) {
-    report(b"three devices", &image);
-    report_first(b"1: shorter than its entries", image, 13);
-    report(b"1: more than 64 devices", &with(image, 0, 65));
-    report(b"1: edition 3", &with(image, 1, 3));
-    report(b"1: second entry byte 1 at device 2", &with(image, 11, 1));
-    report(b"1: unknown family at device 1", &with(image, 6, 0x04));
-    report(b"2: offset of device 1 one more", &with(image, 8, 159));
-    report(b"2: offset of device 2, high byte", &with(image, 13, 2));
-    report_first(b"2: last byte missing", image, 472);
-    report(b"3: CRC of device 0", &with(image, FIRST + 7, 0x96));
-    report(b"3: serial of device 2", &with(image, THIRD + 6, 1));
+fn single_causes(rt: HostRuntime, image: [u8; LENGTH]) -> io::Result<()> {
+    report(rt, b"three devices", &image)?;
+    report_first(rt, b"1: shorter than its entries", image, 13)?;
+    report(rt, b"1: more than 64 devices", &with(image, 0, 65))?;
+    report(rt, b"1: edition 3", &with(image, 1, 3))?;
     report(
+        rt,
+        b"1: second entry byte 1 at device 2",
+        &with(image, 11, 1),
+    )?;
+    report(rt, b"1: unknown family at device 1", &with(image, 6, 0x04))?;
+    report(rt, b"2: offset of device 1 one more", &with(image, 8, 159))?;
+    report(rt, b"2: offset of device 2, high byte", &with(image, 13, 2))?;
+    report_first(rt, b"2: last byte missing", image, 472)?;
+    report(rt, b"3: CRC of device 0", &with(image, FIRST + 7, 0x96))?;
+    report(rt, b"3: serial of device 2", &with(image, THIRD + 6, 1))?;
+    report(
+        rt,
         b"3: code of family 09 at a DS1992",
         &with_code(image, SECOND, code_of(0x09, 1)),
-    );
+    )?;
     report(
+        rt,
         b"4: devices 0 and 2",
         &with_code(image, THIRD, [0x09, 0x2B, 0xC5, 0xFB, 0, 0, 0, 0x97]),
-    );
+    )
 }
 
 // Two causes come together, the lower number's at the later device: the lower number wins over the whole image.
-fn cause_pairs(image: [u8; LENGTH]) {
+fn cause_pairs(rt: HostRuntime, image: [u8; LENGTH]) -> io::Result<()> {
     let doubled = with_code(image, THIRD, [0x09, 0x2B, 0xC5, 0xFB, 0, 0, 0, 0x97]);
-    report(b"1 and 2", &with(with(image, 4, 15), 10, 0x04));
-    report(b"1 and 3", &with(with(image, FIRST + 7, 0), 11, 1));
-    report(b"1 and 4", &with(doubled, 7, 1));
-    report(b"2 and 3", &with(with(image, FIRST + 7, 0), 12, 0));
-    report_first(b"2 and 4", doubled, 472);
-    report(b"3 and 4", &with(doubled, SECOND + 7, 0));
+    report(rt, b"1 and 2", &with(with(image, 4, 15), 10, 0x04))?;
+    report(rt, b"1 and 3", &with(with(image, FIRST + 7, 0), 11, 1))?;
+    report(rt, b"1 and 4", &with(doubled, 7, 1))?;
+    report(rt, b"2 and 3", &with(with(image, FIRST + 7, 0), 12, 0))?;
+    report_first(rt, b"2 and 4", doubled, 472)?;
+    report(rt, b"3 and 4", &with(doubled, SECOND + 7, 0))
 }
 
 // In edition 2 the second byte of an entry is 1 where the battery is flat, which is refused on a DS1982.
-fn second_edition(image: [u8; LENGTH]) {
+fn second_edition(rt: HostRuntime, image: [u8; LENGTH]) -> io::Result<()> {
     let second = with(image, 1, 2);
-    report(b"three devices, edition 2", &second);
-    report(b"flat battery of the DS1992", &with(second, 7, 1));
-    report(b"1: second entry byte 2 at the DS1992", &with(second, 7, 2));
-    report(b"1: flat battery of a DS1982", &with(second, 11, 1));
+    report(rt, b"three devices, edition 2", &second)?;
+    report(rt, b"flat battery of the DS1992", &with(second, 7, 1))?;
+    report(
+        rt,
+        b"1: second entry byte 2 at the DS1992",
+        &with(second, 7, 2),
+    )?;
+    report(rt, b"1: flat battery of a DS1982", &with(second, 11, 1))
 }
 
-fn main() {
-    check([0x0C, 0x2B, 0xC5, 0xFB, 0, 0, 0, 0x5E]);
-    check([0x09, 0x2B, 0xC5, 0xFB, 0, 0, 0, 0x97]);
-    check([0x09, 0xB3, 0xD8, 0xFB, 0, 0, 0, 0x17]);
-    check([0x02, 0x1C, 0xB8, 0x01, 0, 0, 0, 0xA2]);
-    small_images();
+fn main(rt: HostRuntime) -> io::Result<()> {
+    check(rt, [0x0C, 0x2B, 0xC5, 0xFB, 0, 0, 0, 0x5E])?;
+    check(rt, [0x09, 0x2B, 0xC5, 0xFB, 0, 0, 0, 0x97])?;
+    check(rt, [0x09, 0xB3, 0xD8, 0xFB, 0, 0, 0, 0x17])?;
+    check(rt, [0x02, 0x1C, 0xB8, 0x01, 0, 0, 0, 0xA2])?;
+    small_images(rt)?;
     let image = three_devices();
-    single_causes(image);
-    cause_pairs(image);
-    second_edition(image);
+    single_causes(rt, image)?;
+    cause_pairs(rt, image)?;
+    second_edition(rt, image)
 }
