@@ -9,7 +9,7 @@ use Rattle.image.specs.Image.{packed_at}
 use Rattle.image.specs.Refusal.{some_below, equal_bytes, first_cause, edition_known, battery_malformed, entry_malformed, image_malformed, image_too_long, body_misplaced, code_refused, some_code_refused, code_repeated, some_code_repeated, image_causes, image_refusal}
 use Rattle.line.specs.Transfers.{transfer_sends}
 use Rattle.rom.specs.Rom.{overdrive_command, command_speed, rom_speed, after_overdrive_match}
-use Rattle.rom.specs.Rom.{search_bit, addressed, rom_command, after_read, after_match, after_search, rom_next, rom_range}
+use Rattle.rom.specs.Rom.{addressed, rom_command, after_read, after_match, rom_next, rom_range}
 use Rattle.sram.specs.Sram.{load_address}
 use Rattle.sram.specs.Sram.{load_target, begin_byte, store_bit, write_bit, after_data_bit, end_data, after_register, after_scratchpad, pattern_same, after_pattern, copy_length, copy_bytes, copy_to_memory, accept_copy, bytes_copied, pattern_copy, sram_copy, pattern_write, read_memory, sram_command, sram_next, sram_write, sram_reset, data_range, sram_range}
 use Rattle.eprom.specs.Fields.{field_start, field_length, stored_byte, field_read, read_command, write_command, cut_address, command_crc}

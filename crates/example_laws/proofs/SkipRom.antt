@@ -21,7 +21,7 @@ use Rattle.device.specs.Device.{regular_state, waiting_state, reset_state}
 use Rattle.device.proofs.Search.{commanded}
 use Rattle.bus.specs.declared.Event.TheVariants.{Slot, Reset}
 use Rattle.bus.specs.declared.Event.{Event}
-use Rattle.bus.specs.Bus.{Device, BusStep, event_of, hears, answers_low, pulls_low, some_low, master_high, level_of, next_device, bus_step_at, bus_step, Run, with_answer, run_trace}
+use Rattle.bus.specs.Bus.{Device, event_of, hears, answers_low, pulls_low, some_low, master_high, level_of, next_device, bus_step_at, bus_step, Run, with_answer, run_trace}
 use Rattle.bus.specs.Bus.{copied_by_all, copied_in_trace}
 use Rattle.bus.specs.Refusal.{some_byte, bad_trace, no_first_reset, bad_pulse}
 use Rattle.bus.specs.Run.{waiting_devices, table_of_contents, bodies_of, states_of, run_result, run_outcome, left_by_run, run_at, run_of}

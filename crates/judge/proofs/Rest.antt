@@ -8,7 +8,6 @@ use native.Mathlib.Omega.{arith}
 use lib.ListN.{length, get_or, set, take, drop, length-append, length-drop, take-append-drop, get_or-append}
 use lib.Seq.{length-take-le, drop-cons}
 use lib.Dec.{eqb}
-use Rattle.kind.specs.declared.Kind.{Kind}
 use Rattle.kind.specs.Kind.{kind_of, body_size}
 use Rattle.image.specs.Image.{count_of, offset_at, kind_at}
 use Rattle.image.proofs.Accepted.{Known}

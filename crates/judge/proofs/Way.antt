@@ -5,9 +5,9 @@
 --     event-alike      an event leaves them alike
 --     alike-wrote, -reads    both have the same mark
 --     fast-before      a device that is at overdrive after an event at overdrive was so before it
-use Prim.Native.Nat.{ℕ, ◌+◌, ◌<◌, ◌≤◌, ◌%◌}
+use Prim.Native.Nat.{ℕ, ◌+◌, ◌<◌}
 use mathlib.Core.Path.{◌≡◌, refl, sym, ap, subst, ◌∙◌}
-use mathlib.Core.Bool.{Bool, true, false, not, cond, ◌&&◌, ◌||◌, true≢false, beq}
+use mathlib.Core.Bool.{Bool, true, false, not, cond, ◌&&◌, true≢false, beq}
 use mathlib.Core.List.{List}
 use native.Mathlib.Omega.{arith}
 use lib.ListN.{get_or, take}

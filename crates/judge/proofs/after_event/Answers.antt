@@ -5,7 +5,6 @@ use borrow.Author.Tests.{ne_eqb}
 use Prim.Native.Nat.{ℕ}
 use mathlib.Core.Bool.{true, false}
 use mathlib.Core.Path.{sym, ap, ◌∙◌}
-use borrow.Author.Rules.{rules}
 use Rattle.judge.proofs.after_event.Goals as goal
 
 pub returns-in-0 : goal.returns-in-0

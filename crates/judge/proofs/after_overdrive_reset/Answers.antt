@@ -1,4 +1,3 @@
-use borrow.Author.Rules.{rules}
 use Rattle.judge.proofs.after_overdrive_reset.Goals as goal
 
 pub returns-then-state : goal.returns-then-state

@@ -3,7 +3,6 @@ use Rattle.device.specs.Device.{waiting_state}
 use mathlib.Core.Bool.{Bool, cond}
 use mathlib.Core.Path.{sym, ap, ◌∙◌}
 use Rattle.judge.specs.Loops.{after_slot_at}
-use borrow.Author.Rules.{rules}
 use Rattle.judge.proofs.after_slot.Goals as goal
 
 pub returns-then-state-overdrive : goal.returns-then-state-overdrive

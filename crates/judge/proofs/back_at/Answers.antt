@@ -1,7 +1,6 @@
 use native.Mathlib.Numerals.{add-one}
 use mathlib.Core.Path.{sym, ◌∙◌}
 use Rattle.judge.specs.Loops.{part_from, back_at}
-use borrow.Author.Rules.{rules}
 use Rattle.judge.proofs.back_at.Goals as goal
 
 pub returns-then-begins_part : goal.returns-then-begins_part

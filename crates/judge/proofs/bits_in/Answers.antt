@@ -2,7 +2,6 @@ use Rattle.bus.specs.Bus.{event_of, hears, is_slot}
 use Rattle.judge.specs.Loops.{bits_in, slot_at}
 use mathlib.Core.Path.{◌∙◌, sym}
 use native.Mathlib.Omega.{arith}
-use borrow.Author.Rules.{rules}
 use Rattle.judge.proofs.bits_in.Goals as goal
 
 pub returns-then-is_slot_at : goal.returns-then-is_slot_at

@@ -1,10 +1,8 @@
 use Rattle.judge.proofs.Laws.{reads_before, shown-step, shown-stop, shown-all}
 use Rattle.judge.specs.Loops.{shown_from, bits_in}
-use Prim.Native.Nat.{ℕ, ◌+◌, ◌-◌, ◌≤◌}
+use Prim.Native.Nat.{ℕ, ◌+◌, ◌-◌}
 use native.Mathlib.Omega.{arith}
-use borrow.Author.Tests.{not-true, not-false}
-use borrow.Author.Rules.{rules}
-use mathlib.Core.Path.{◌≡◌, refl, sym, ap, ◌∙◌}
+use mathlib.Core.Path.{refl, sym, ap, ◌∙◌}
 use Rattle.judge.proofs.bits_shown.Goals as goal
 
 pub loop-due-init : goal.loop-due-init

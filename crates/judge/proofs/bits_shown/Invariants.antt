@@ -1,10 +1,6 @@
-use Rattle.judge.proofs.Laws.{reads_before, shown-step, shown-stop, shown-all}
-use Rattle.judge.specs.Loops.{shown_from, bits_in}
-use Prim.Native.Nat.{ℕ, ◌+◌, ◌-◌, ◌≤◌}
-use native.Mathlib.Omega.{arith}
-use borrow.Author.Tests.{not-true, not-false}
-use borrow.Author.Rules.{rules}
-use mathlib.Core.Path.{◌≡◌, refl, sym, ap, ◌∙◌}
+use Rattle.judge.specs.Loops.{shown_from}
+use Prim.Native.Nat.{◌+◌, ◌-◌}
+use mathlib.Core.Path.{◌≡◌}
 use Rattle.judge.proofs.bits_shown.Given as goal
 
 abbrev pub invariant-loop-due : goal.invariant-loop-due

@@ -1,5 +1,4 @@
 use Rattle.judge.specs.Loops.{doing_of}
-use borrow.Author.Rules.{rules}
 use Rattle.judge.proofs.doing_of.Goals as goal
 
 pub returns-in-Rom : goal.returns-in-Rom

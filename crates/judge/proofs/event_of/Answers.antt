@@ -1,5 +1,4 @@
 use Rattle.judge.specs.Judge.{broken_at}
-use borrow.Author.Rules.{rules}
 use Rattle.judge.proofs.event_of.Goals as goal
 
 pub returns-in-Accepted : goal.returns-in-Accepted

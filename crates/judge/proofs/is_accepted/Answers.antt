@@ -1,7 +1,6 @@
 use Rattle.judge.specs.Loops.{pattern_accepted}
 use Rattle.sram.specs.Sram.{pattern_same}
 use borrow.Author.Tests.{le-ltb, lt-ltb}
-use borrow.Author.Rules.{rules}
 use Rattle.judge.proofs.is_accepted.Goals as goal
 
 pub returns-then-at-lt2 : goal.returns-then-at-lt2

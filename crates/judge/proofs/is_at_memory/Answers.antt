@@ -1,5 +1,4 @@
 use Rattle.judge.specs.Loops.{at_memory}
-use borrow.Author.Rules.{rules}
 use Rattle.judge.proofs.is_at_memory.Goals as goal
 
 pub returns-in-Rom : goal.returns-in-Rom

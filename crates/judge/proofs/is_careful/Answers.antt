@@ -1,11 +1,9 @@
 use mathlib.Core.Path.{refl}
-use Prim.Native.Nat.{◌-◌, ◌≤◌}
+use Prim.Native.Nat.{◌-◌}
 use native.Mathlib.Omega.{arith}
-use borrow.Author.Rules.{rules}
-use mathlib.Core.Bool.{false}
 use Rattle.judge.proofs.Laws.{back_step, back_end, looks-positive}
-use Rattle.judge.specs.Loops.{back_to, back_from, careful_by, careful_at}
-use mathlib.Core.Path.{◌≡◌, sym, ap, ◌∙◌}
+use Rattle.judge.specs.Loops.{back_from, careful_by, careful_at}
+use mathlib.Core.Path.{sym, ap, ◌∙◌}
 use Rattle.judge.proofs.is_careful.Goals as goal
 
 pub loop-kind-init : goal.loop-kind-init

@@ -1,11 +1,7 @@
-use mathlib.Core.Path.{refl}
-use Prim.Native.Nat.{◌-◌, ◌≤◌}
-use native.Mathlib.Omega.{arith}
-use borrow.Author.Rules.{rules}
+use Prim.Native.Nat.{◌≤◌}
 use mathlib.Core.Bool.{false}
-use Rattle.judge.proofs.Laws.{back_step, back_end, looks-positive}
-use Rattle.judge.specs.Loops.{back_to, back_from, careful_by, careful_at}
-use mathlib.Core.Path.{◌≡◌, sym, ap, ◌∙◌}
+use Rattle.judge.specs.Loops.{back_to, back_from}
+use mathlib.Core.Path.{◌≡◌}
 use Rattle.judge.proofs.is_careful.Given as goal
 
 abbrev pub invariant-loop-kind : goal.invariant-loop-kind

@@ -2,7 +2,6 @@ use mathlib.Core.Path.{sym, ◌∙◌}
 use Rattle.judge.specs.Loops.{careless_at}
 use native.Mathlib.Omega.{arith}
 use Rattle.bus.proofs.Laws.{inside_of}
-use borrow.Author.Rules.{rules}
 use Rattle.judge.proofs.is_careless.Goals as goal
 
 pub slice_bounds-is_accepted-count : goal.slice_bounds-is_accepted-count

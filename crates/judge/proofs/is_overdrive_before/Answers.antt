@@ -1,5 +1,4 @@
 use Rattle.judge.specs.Loops.{overdrive_before}
-use borrow.Author.Rules.{rules}
 use Rattle.judge.proofs.is_overdrive_before.Goals as goal
 
 pub returns : goal.returns

@@ -1,5 +1,4 @@
 use Rattle.judge.specs.Loops.{level_at}
-use borrow.Author.Rules.{rules}
 use Rattle.judge.proofs.level_at.Goals as goal
 
 pub returns : goal.returns

@@ -1,5 +1,4 @@
 use Rattle.judge.specs.Loops.{line_next}
-use borrow.Author.Rules.{rules}
 use Rattle.judge.proofs.line_next.Goals as goal
 
 pub returns : goal.returns

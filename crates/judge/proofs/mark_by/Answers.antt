@@ -1,5 +1,4 @@
 use Rattle.judge.specs.Loops.{mark_by}
-use borrow.Author.Rules.{rules}
 use Rattle.judge.proofs.mark_by.Goals as goal
 
 pub returns-then-last-value : goal.returns-then-last-value

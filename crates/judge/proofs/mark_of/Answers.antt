@@ -1,5 +1,4 @@
 use Rattle.judge.specs.Loops.{mark_of}
-use borrow.Author.Rules.{rules}
 use Rattle.judge.proofs.mark_of.Goals as goal
 
 pub returns : goal.returns

@@ -1,5 +1,4 @@
 use Rattle.judge.specs.Loops.{memory_doing}
-use borrow.Author.Rules.{rules}
 use Rattle.judge.proofs.memory_doing.Goals as goal
 
 pub returns-in-Command : goal.returns-in-Command

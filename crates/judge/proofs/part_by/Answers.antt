@@ -1,5 +1,4 @@
 use Rattle.judge.specs.Loops.{part_by}
-use borrow.Author.Rules.{rules}
 use Rattle.judge.proofs.part_by.Goals as goal
 
 pub returns-in-Unmarked : goal.returns-in-Unmarked

@@ -1,11 +1,8 @@
 use Rattle.judge.proofs.Laws.{part_step, part_end}
-use Rattle.judge.specs.Loops.{part_so, part_over}
-use Rattle.device.specs.Device.{reset_at}
-use borrow.Author.Rules.{rules}
-use Prim.Native.Nat.{◌≤◌, ◌-◌, ◌+◌}
+use Rattle.judge.specs.Loops.{part_over}
+use Prim.Native.Nat.{◌-◌, ◌+◌}
 use native.Mathlib.Omega.{arith}
-use mathlib.Core.Bool.{false}
-use mathlib.Core.Path.{◌≡◌, sym, ◌∙◌}
+use mathlib.Core.Path.{sym, ◌∙◌}
 use Rattle.judge.proofs.part_in.Goals as goal
 
 pub loop-k-init : goal.loop-k-init

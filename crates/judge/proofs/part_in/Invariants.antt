@@ -1,11 +1,8 @@
-use Rattle.judge.proofs.Laws.{part_step, part_end}
 use Rattle.judge.specs.Loops.{part_so, part_over}
 use Rattle.device.specs.Device.{reset_at}
-use borrow.Author.Rules.{rules}
-use Prim.Native.Nat.{◌≤◌, ◌-◌, ◌+◌}
-use native.Mathlib.Omega.{arith}
+use Prim.Native.Nat.{◌-◌}
 use mathlib.Core.Bool.{false}
-use mathlib.Core.Path.{◌≡◌, sym, ◌∙◌}
+use mathlib.Core.Path.{◌≡◌}
 use Rattle.judge.proofs.part_in.Given as goal
 
 abbrev pub invariant-loop-k : goal.invariant-loop-k

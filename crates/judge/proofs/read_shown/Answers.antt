@@ -1,5 +1,4 @@
 use Rattle.judge.specs.Loops.{read_shown}
-use borrow.Author.Rules.{rules}
 use Rattle.judge.proofs.read_shown.Goals as goal
 
 pub returns : goal.returns

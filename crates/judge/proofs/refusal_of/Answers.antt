@@ -1,5 +1,4 @@
 use Rattle.judge.specs.Judge.{refusal_of}
-use borrow.Author.Rules.{rules}
 use Rattle.judge.proofs.refusal_of.Goals as goal
 
 pub returns-in-Accepted : goal.returns-in-Accepted

@@ -1,5 +1,4 @@
 use Rattle.judge.specs.Judge.{rule_number}
-use borrow.Author.Rules.{rules}
 use Rattle.judge.proofs.rule_number.Goals as goal
 
 pub returns-in-Answers : goal.returns-in-Answers

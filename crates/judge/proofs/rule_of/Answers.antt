@@ -1,5 +1,4 @@
 use Rattle.judge.specs.Judge.{rule_of}
-use borrow.Author.Rules.{rules}
 use Rattle.judge.proofs.rule_of.Goals as goal
 
 pub returns-in-Accepted : goal.returns-in-Accepted

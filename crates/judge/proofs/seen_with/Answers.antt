@@ -1,12 +1,10 @@
 use Rattle.judge.proofs.Laws.{seen-so}
 use Rattle.judge.specs.Loops.{slot_at, seen_so, seen_by}
 use Rattle.line.specs.Transfers.{goes_on, received}
-use borrow.Author.Tests.{not-true, not-false}
 use lib.ListN.{get_or}
 use Prim.Native.Nat.{ℕ, ◌+◌}
 use mathlib.Core.Bool.{not, ◌&&◌, ◌||◌, or-false}
 use mathlib.Core.Path.{◌≡◌, refl, sym, ap, ◌∙◌}
-use borrow.Author.Rules.{rules}
 use Rattle.judge.proofs.seen_with.Goals as goal
 
 pub returns-then-not-last : goal.returns-then-not-last

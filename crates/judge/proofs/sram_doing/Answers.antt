@@ -1,5 +1,4 @@
 use Rattle.judge.specs.Loops.{sram_doing}
-use borrow.Author.Rules.{rules}
 use Rattle.judge.proofs.sram_doing.Goals as goal
 
 pub returns-in-WriteLow : goal.returns-in-WriteLow

@@ -1,5 +1,4 @@
 use Rattle.judge.specs.Loops.{still_looked_at}
-use borrow.Author.Rules.{rules}
 use Rattle.judge.proofs.still_looked_at.Goals as goal
 
 pub returns-in-Accepted : goal.returns-in-Accepted

@@ -1,5 +1,4 @@
 use Rattle.judge.specs.Loops.{verdict_kept}
-use borrow.Author.Rules.{rules}
 use Rattle.judge.proofs.verdict_kept.Goals as goal
 
 pub returns-in-Answers : goal.returns-in-Answers

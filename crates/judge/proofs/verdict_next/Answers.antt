@@ -1,5 +1,4 @@
 use Rattle.judge.specs.Loops.{verdict_next}
-use borrow.Author.Rules.{rules}
 use Rattle.judge.proofs.verdict_next.Goals as goal
 
 pub returns-then-agrees : goal.returns-then-agrees

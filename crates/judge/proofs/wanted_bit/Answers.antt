@@ -1,6 +1,5 @@
 use Rattle.judge.specs.Loops.{wanted_bit}
 use borrow.Author.Tests.{le-ltb, lt-ltb}
-use borrow.Author.Rules.{rules}
 use Rattle.judge.proofs.wanted_bit.Goals as goal
 
 pub returns-then-at-lt-REGISTER_BITS : goal.returns-then-at-lt-REGISTER_BITS
