@@ -39,7 +39,7 @@ returns c =
     let count = c.device_count-n in
     let told : ℕ → List ℕ → List ℕ = λ n l. numbers trace n (length trace) (run_state l looked lines) in
     c.number_own.ensures.1
-    ∙ ap (λ (m : ℕ). told m (take (length image - 0) (drop 0 copy.new.1.0))) count.ensures
+    ∙ ap (λ (m : ℕ). told m (take (length image - 0) (drop 0 copy.new.into))) count.ensures
     ∙ ap (λ (l : List ℕ). told (count_of image) (take (length image - 0) (drop 0 l))) copy.ensures
     ∙ ap (told (count_of image)) (copy_holds image 65535 short)
     ∙ numbers-shown image trace looked c.requires
