@@ -149,7 +149,8 @@ def turn(landed, copy, group):
 
 
 def bare(text):
-    """A text without its layout."""
+    """A text without its layout; the space before a projection of the older spelling stays."""
+    text = re.sub(r"(?<=\S) +\.(?=[a-z])", "~.", text)
     return re.sub(r",(?=[\])}])", "", re.sub(r"\s+", "", text))
 
 
