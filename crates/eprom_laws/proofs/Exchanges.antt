@@ -12,7 +12,8 @@ use Rattle.line.specs.Slots.{levels_sent_over, shifted_over}
 use Rattle.line.specs.declared.Field.{Field}
 use Rattle.line.specs.declared.EpromStage.{EpromStage}
 use Rattle.line.specs.declared.Transfer.{Transfer}
-use Rattle.line.proofs.Transfers.{sending-law, listening-byte}
+use Rattle.line.proofs.Transfers.{sending-law}
+use Rattle.line.proofs.Bytes.{listening-byte}
 use Rattle.eprom.specs.Fields.{in_eprom}
 use Rattle.eprom.specs.Writes.{await_pulse, programmed_body, send_stored}
 use Rattle.eprom.specs.Eprom.{eprom_next, eprom_pulse, eprom_program}

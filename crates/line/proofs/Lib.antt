@@ -1,2 +1,3 @@
 pub mod Transfers
 pub mod Range
+pub mod Bytes

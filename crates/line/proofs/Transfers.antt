@@ -1,5 +1,5 @@
 -- Laws of a transfer: what a device sends in it, and what it receives. Assumes nothing.
-use Prim.Native.Nat.{ℕ, zero, suc, ◌-◌, ◌/◌, ◌≤◌, ◌<◌}
+use Prim.Native.Nat.{ℕ, zero, suc, ◌-◌, ◌≤◌, ◌<◌}
 use mathlib.Core.Path.{◌≡◌, refl, ap, ◌∙◌}
 use mathlib.Core.Bool.{Bool}
 use mathlib.Core.List.{List, [], ◌∷◌, ◌++◌}
@@ -8,7 +8,7 @@ use native.Mathlib.Nat.{sub-zero}
 use lib.ListN.{length}
 use Rattle.bits.specs.Bit.{bit_of}
 use Rattle.bits.specs.Levels.{low_bits, spelled, shifts_in}
-use Rattle.bits.proofs.Levels.{level-above, spells-eight, spelled-bits}
+use Rattle.bits.proofs.Levels.{level-above, spells-eight}
 use Rattle.line.specs.Transfers.{sending, listening, transfer_sends, shifted}
 use Rattle.line.specs.Slots.{levels_sent_over, shifted_over}
 use Rattle.line.specs.declared.Stage.{Stage}
@@ -70,14 +70,3 @@ transfer-receives transfer levels small h =
 pub listening-law : (stage : Stage) (levels : List Bool) → length levels ≡ 8
     → (shifted_over (listening stage) levels).register ≡ spelled levels
 listening-law stage levels h = transfer-receives (listening stage) levels (omega arith) h
-
--- so a byte's own bits are received as that byte
-low-length : (n value : ℕ) → length (low_bits n value) ≡ n
-unfolding low_bits
-low-length zero value = refl
-low-length (suc n) value = ap suc (low-length n (value / 2))
-
-pub listening-byte : (stage : Stage) (byte : ℕ) → byte < 256
-    → (shifted_over (listening stage) (low_bits 8 byte)).register ≡ byte
-listening-byte stage byte h =
-    listening-law stage (low_bits 8 byte) (low-length 8 byte) ∙ spelled-bits 8 byte ∙ omega arith
