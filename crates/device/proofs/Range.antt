@@ -2,7 +2,7 @@
 -- again. Assumes nothing.
 use Prim.Native.Nat.{ℕ, ◌-◌, ◌<◌}
 use mathlib.Core.Path.{◌≡◌, refl, sym, ap, ◌∙◌}
-use mathlib.Core.Bool.{Bool, true, false, not, cond, ◌&&◌, ◌||◌}
+use mathlib.Core.Bool.{Bool, true, false, not, cond, ◌&&◌}
 use mathlib.Core.List.{List}
 use lib.ListN.{length}
 use lib.Dec.{ltb, eqb}
@@ -27,7 +27,7 @@ use Rattle.eprom.specs.Eprom.{eprom_range}
 use Rattle.eprom.proofs.Range as eprom
 use Rattle.device.specs.declared.LineState.{LineState}
 use Rattle.device.specs.Device.{memory_command, memory_next, stage_next, memory_pulse, stage_pulse, transfer_after_slot, stage_speed, speed_after_slot}
-use Rattle.device.specs.Device.{line_state, waiting_state, reset_at, reset_state, waits, sends_as_is, state_after_slot_as_is, body_after_slot_as_is}
+use Rattle.device.specs.Device.{line_state, waiting_state, reset_at, reset_state, sends_as_is, state_after_slot_as_is, body_after_slot_as_is}
 use Rattle.device.specs.Device.{body_after_reset_as_is, state_after_pulse_as_is}
 use Rattle.device.specs.Device.{body_after_pulse_as_is, memory_range, stage_range, line_state_in_range, or_waiting, sends_of, state_after_slot}
 use Rattle.device.specs.Device.{body_after_slot, body_after_reset, state_after_pulse, body_after_pulse}

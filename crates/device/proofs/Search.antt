@@ -12,7 +12,7 @@ use Rattle.bits.specs.Levels.{spelled, shifts_in}
 use Rattle.bits.proofs.Laws.{below-eight}
 use Rattle.bits.proofs.Levels.{sends-bit, spells-eight, shifts-more}
 use Rattle.kind.specs.declared.Kind.{Kind}
-use Rattle.kind.specs.Kind.{body_size, speed_known, has_overdrive}
+use Rattle.kind.specs.Kind.{body_size, speed_known}
 use Rattle.line.specs.declared.RomStage.TheVariants.{Command}
 use Rattle.line.specs.declared.Stage.TheVariants.{Rom}
 use Rattle.line.specs.declared.Transfer.{Transfer}

@@ -1,7 +1,7 @@
 -- Document 01, 'The trace and its levels', and document 02, items 4, 7 and 9, are stated here for one device: what it
 -- sends in a slot, what a slot, a reset and a program pulse leave of its line state (document 01's line record) and of
 -- its body, and what a copy did in a slot.
-use Rattle.std.specs.Prelude.{ℕ, Bool, true, false, not, cond, ◌&&◌, List, length, eqb}
+use Rattle.std.specs.Prelude.{ℕ, Bool, false, not, cond, ◌&&◌, List, length, eqb}
 use Rattle.kind.specs.declared.Kind.{Kind}
 use Rattle.kind.specs.declared.Kind.TheVariants as kinds
 use Rattle.kind.specs.Kind.{body_size, memory_size, is_sram, is_eprom, is_flat, speed_known}

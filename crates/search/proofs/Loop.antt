@@ -1,23 +1,20 @@
 -- The loop of `exchange`: the state after k exchanges, by recursion on k, and that after as many as the search has events it is the search's.
 -- A turn of the loop begins with the master's step, so that it ends one exchange and begins the next: what the loop
 -- holds between its turns is stated from the same states. Assumes nothing.
-use Prim.Native.Nat.{ℕ, zero, suc, ◌+◌, ◌-◌, ◌*◌, ◌<◌, ◌≤◌}
+use Prim.Native.Nat.{ℕ, zero, suc, ◌+◌, ◌*◌, ◌<◌, ◌≤◌}
 use mathlib.Core.Path.{◌≡◌, refl, sym, ap, subst, ◌∙◌}
-use mathlib.Core.Bool.{Bool, true, false, not, cond, true≢false}
-use mathlib.Core.List.{List, [], ◌∷◌, ◌++◌, map}
+use mathlib.Core.Bool.{Bool, true, false, not, true≢false}
+use mathlib.Core.List.{List, [], ◌∷◌, ◌++◌}
 use native.Mathlib.Omega.{arith}
 use lib.ListN.{length, take, drop, set, replicate, length-append, length-set, length-drop, take-append-drop}
 use lib.Seq.{sets, sets-eq, length-sets, take_at, drop_at, drop-append-add, drop-drop}
-use lib.Dec.{eqb, ltb, leb}
-use borrow.Author.Tests.{lt-ltb, le-leb}
-use Rattle.kind.specs.Kind.{body_size}
-use Rattle.image.specs.Image.{count_of, kind_at, offset_at, body_at}
-use Rattle.image.proofs.Accepted.{Known, accepted-known, inside}
+use lib.Dec.{eqb}
+use Rattle.image.specs.Image.{count_of}
+use Rattle.image.proofs.Accepted.{accepted-known}
 use Rattle.device.specs.declared.LineState.{LineState}
 use Rattle.device.specs.Device.{waiting_state}
 use Rattle.bits.specs.Bit.{level_byte}
-use Rattle.bus.specs.Bus.{Device, device_with, event_of, next_state, run_trace}
-use Rattle.bus.specs.Bus as Bus
+use Rattle.bus.specs.Bus.{event_of, run_trace}
 use Rattle.bus.specs.Run.{devices_from, states_of}
 use Rattle.bus.specs.Loops.{turn_states_from, level_as_is, level_on, turn_states_of}
 use Rattle.bus.proofs.Shown.{devices-states}
@@ -30,7 +27,7 @@ use Rattle.master.specs.Master.{code_bytes, event, end, end_number, answer_value
 use Rattle.master.specs.Drive.{code_completed, written_over}
 use Rattle.master.proofs.Clock.{Reached, reached-started, started-passes, reached-on, completed-size}
 use Rattle.search_laws.specs.Search.{Search, search_of}
-use Rattle.search_laws.specs.Searched.{Searched, events_for}
+use Rattle.search_laws.specs.Searched.{Searched}
 use Rattle.search_laws.proofs.Driven.{driven-stops, driven-devices}
 use Rattle.search_laws.proofs.Demand.{searched}
 use Rattle.search_laws.proofs.Going as G

@@ -9,7 +9,7 @@ use lib.Seq.{take_at, drop_at}
 use lib.Dec.{T, eqb, ltb}
 use borrow.Author.Tests.{ltb-false}
 use Rattle.image.specs.Image.{count_of}
-use Rattle.image.specs.Refusal.{cause, first_cause, image_causes, image_refusal}
+use Rattle.image.specs.Refusal.{cause, image_causes, image_refusal}
 use Rattle.device.specs.declared.LineState.{LineState}
 use Rattle.device.specs.Device.{waiting_state}
 use Rattle.master.specs.Master.{code_bytes}
@@ -18,7 +18,7 @@ use Rattle.bus.specs.Run.{states_of}
 use Rattle.bus.specs.Loops.{fewer_of, filled_up_to}
 use Rattle.bus.proofs.Laws.{none_first, filled-length, fewer-first}
 use Rattle.bus.proofs.Shown.{filled_is}
-use Rattle.search_laws.specs.Search.{Search, search_of}
+use Rattle.search_laws.specs.Search.{search_of}
 use Rattle.search_laws.specs.Searched.{Searched, events_for}
 use Rattle.search_laws.specs.Words.{Bytes}
 use Rattle.search_laws.proofs.Demand.{searched}

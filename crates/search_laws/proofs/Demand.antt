@@ -11,10 +11,9 @@ use Rattle.bits.specs.Bit.{bit_at}
 use Rattle.image.specs.Image.{count_of, code_at}
 use Rattle.image.specs.Refusal.{image_refusal}
 use Rattle.image.proofs.Accepted.{Known, accepted-known}
-use Rattle.line.specs.declared.RomStage.TheVariants.{Waiting}
 use Rattle.device.specs.declared.LineState.{LineState}
 use Rattle.device.specs.Device.{waiting_state}
-use Rattle.bus.specs.Bus.{Device, event_of, some_low, master_high, level_of, run_trace, copied_by_all, copied_in_trace}
+use Rattle.bus.specs.Bus.{Device, event_of, some_low, master_high, level_of, run_trace, copied_by_all}
 use Rattle.bus.specs.Refusal.{some_byte, bad_trace, no_first_reset, bad_pulse, run_refusal}
 use Rattle.bus.specs.Run.{waiting_devices, table_of_contents, bodies_of, states_of, run_result, run_outcome, left_by_run, run_at, run_of}
 use Rattle.bus.proofs.Laws.{not-refused}

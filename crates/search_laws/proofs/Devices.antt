@@ -21,7 +21,7 @@ use Rattle.bits.specs.Levels.{spelled}
 use Rattle.rom.specs.Rom.{search_bit, addressed, rom_command, command_speed, after_search}
 use Rattle.device.specs.declared.LineState.{LineState}
 use Rattle.device.specs.Device.{line_state, regular_state, waiting_state, reset_state, line_state_in_range, or_waiting, sends_of, state_after_slot, body_after_reset}
-use Rattle.device.proofs.Laws.{waiting-sends, waiting-step, waiting-copies, rom-write, rom-copies, rom-reset, addressed-reset}
+use Rattle.device.proofs.Laws.{waiting-sends, waiting-step, rom-write, rom-copies, rom-reset, addressed-reset}
 use Rattle.device.proofs.Search.{searching, search-sends-bit, search-after-bit, search-sends-complement, search-after-complement, search-sends-direction, search-after-direction, commanded, command-sends, command-goes-on, command-ends}
 use Rattle.bus.specs.declared.Event.{Event}
 use Rattle.bus.specs.declared.Event.TheVariants.{Slot, Reset, Pulse, OverdriveSlot, OverdriveReset}

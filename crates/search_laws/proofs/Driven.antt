@@ -12,7 +12,7 @@ use Rattle.bits.specs.Bit.{level_byte}
 use Rattle.master.specs.declared.Master.{Master}
 use Rattle.master.specs.Master.{AnswerValue, event, end, master_answer, master_after_level, next_master}
 use Rattle.master.specs.Drive.{master_after_levels, event_then, events_from, code_completed, codes_from}
-use Rattle.bus.specs.Bus.{Device, event_of, level_of, next_device, bus_step_at, bus_step, with_answer, run_trace, copied_by_all, copied_in_trace}
+use Rattle.bus.specs.Bus.{Device, event_of, level_of, next_device, bus_step_at, bus_step, with_answer, run_trace, copied_in_trace}
 use Rattle.search_laws.proofs.Codes.{differ}
 use Rattle.search_laws.proofs.Devices.{Aside, Idle}
 use Rattle.search_laws.specs.Search.{Search, search_stopped, search_preceded, search_exchange, search_from}

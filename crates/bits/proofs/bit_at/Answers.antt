@@ -1,5 +1,4 @@
 use Rattle.bits.specs.Bit.{bit_at}
-use borrow.Author.Rules.{rules}
 use Rattle.bits.proofs.bit_at.Goals as goal
 
 pub returns : goal.returns

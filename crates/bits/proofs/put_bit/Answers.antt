@@ -1,5 +1,4 @@
 use Rattle.bits.specs.Bit.{put_bit}
-use borrow.Author.Rules.{rules}
 use Rattle.bits.proofs.put_bit.Goals as goal
 
 pub returns : goal.returns

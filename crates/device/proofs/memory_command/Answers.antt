@@ -1,6 +1,4 @@
 use Rattle.device.specs.Device.{memory_command}
-use borrow.Author.Rules.{rules}
-use Rattle.sram.proofs.command.Reads as command-reads'
 use Rattle.device.proofs.memory_command.Goals as goal
 
 pub returns-in-Sram : goal.returns-in-Sram

@@ -1,7 +1,5 @@
 use Rattle.device.specs.Device.{memory_copy, memory_next, memory_write}
 use mathlib.Core.Path.{refl}
-use borrow.Author.Rules.{rules}
-use Rattle.sram.proofs.next.Reads as next-reads'
 use Rattle.device.proofs.memory_end.Goals as goal
 
 pub returns-in-Command : goal.returns-in-Command

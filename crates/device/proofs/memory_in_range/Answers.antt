@@ -1,6 +1,4 @@
 use Rattle.device.specs.Device.{memory_range}
-use borrow.Author.Rules.{rules}
-use Rattle.sram.proofs.in_range.Reads as in-range-reads'
 use Rattle.device.proofs.memory_in_range.Goals as goal
 
 pub returns-in-Command : goal.returns-in-Command

@@ -1,6 +1,4 @@
 use Rattle.device.specs.Device.{memory_next}
-use borrow.Author.Rules.{rules}
-use Rattle.sram.proofs.next.Reads as next-reads'
 use Rattle.device.proofs.memory_next.Goals as goal
 
 pub returns-in-Command : goal.returns-in-Command

@@ -1,5 +1,4 @@
 use Rattle.device.specs.Device.{memory_program}
-use borrow.Author.Rules.{rules}
 use Rattle.device.proofs.memory_program.Goals as goal
 
 pub returns-in-Command : goal.returns-in-Command

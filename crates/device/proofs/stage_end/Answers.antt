@@ -1,6 +1,5 @@
 use Rattle.device.specs.Device.{stage_copy, stage_next, stage_speed, stage_write}
 use mathlib.Core.Path.{refl}
-use borrow.Author.Rules.{rules}
 use Rattle.device.proofs.stage_end.Goals as goal
 
 pub returns-in-Rom : goal.returns-in-Rom

@@ -1,5 +1,4 @@
 use Rattle.device.specs.Device.{stage_next}
-use borrow.Author.Rules.{rules}
 use Rattle.device.proofs.stage_next.Goals as goal
 
 pub returns-in-Rom : goal.returns-in-Rom

@@ -1,5 +1,4 @@
 use Rattle.device.specs.Device.{stage_program}
-use borrow.Author.Rules.{rules}
 use Rattle.device.proofs.stage_program.Goals as goal
 
 pub returns-in-Rom : goal.returns-in-Rom

@@ -1,5 +1,4 @@
 use Rattle.device.specs.Device.{stage_pulse}
-use borrow.Author.Rules.{rules}
 use Rattle.device.proofs.stage_pulse.Goals as goal
 
 pub returns-in-Rom : goal.returns-in-Rom

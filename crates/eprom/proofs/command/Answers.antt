@@ -1,6 +1,5 @@
 use Rattle.eprom.specs.Eprom.{eprom_command}
 use borrow.Author.Tests.{ne_eqb}
-use borrow.Author.Rules.{rules}
 use Rattle.eprom.proofs.command.Goals as goal
 
 pub returns-in-240 : goal.returns-in-240

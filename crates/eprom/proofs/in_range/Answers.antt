@@ -1,5 +1,4 @@
 use Rattle.eprom.specs.Eprom.{eprom_range}
-use borrow.Author.Rules.{rules}
 use Rattle.eprom.proofs.in_range.Goals as goal
 
 pub returns-in-ReadLow : goal.returns-in-ReadLow

@@ -1,5 +1,4 @@
 use Rattle.eprom.specs.Eprom.{eprom_next}
-use borrow.Author.Rules.{rules}
 use Rattle.eprom.proofs.next.Goals as goal
 
 pub returns-in-ReadLow : goal.returns-in-ReadLow

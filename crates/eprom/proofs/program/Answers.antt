@@ -1,5 +1,4 @@
 use Rattle.eprom.specs.Eprom.{eprom_program}
-use borrow.Author.Rules.{rules}
 use Rattle.eprom.proofs.program.Goals as goal
 
 pub returns-in-ReadLow : goal.returns-in-ReadLow

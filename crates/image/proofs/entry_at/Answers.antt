@@ -1,5 +1,4 @@
 use Rattle.image.specs.Image.{entry_of}
-use borrow.Author.Rules.{rules}
 use Rattle.image.proofs.entry_at.Goals as goal
 
 pub returns : goal.returns

@@ -1,12 +1,3 @@
-use Rattle.image.specs.Image.{count_of}
-use Prim.Native.Nat.{ℕ}
-use mathlib.Core.Bool.{Bool, true}
-use mathlib.Core.Path.{sym, ap, ◌∙◌}
-use Rattle.image.specs.Refusal.{image_malformed}
-use borrow.Author.Rules.{rules}
-use mathlib.Core.Path.{refl}
-use native.Mathlib.Omega.{arith}
-use Rattle.image.proofs.Laws.{some_at, some_more}
 use Rattle.image.specs.Refusal.{some_below, entry_malformed}
 use Prim.Native.Nat.{◌≤◌, ◌-◌}
 use mathlib.Core.Bool.{false}

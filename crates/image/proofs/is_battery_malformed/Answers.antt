@@ -1,6 +1,5 @@
 use Rattle.image.specs.Refusal.{battery_malformed}
 use borrow.Author.Tests.{eq-eqb, le-ltb, lt-ltb, ne_eqb}
-use borrow.Author.Rules.{rules}
 use Rattle.image.proofs.is_battery_malformed.Goals as goal
 
 pub returns-then-edition-eq1 : goal.returns-then-edition-eq1

@@ -6,11 +6,10 @@ use lib.ListN.{take, drop}
 use native.Mathlib.Nat.{add-zero}
 use Prim.Native.Nat.{◌+◌, ◌-◌}
 use Prim.Native.Nat.{ℕ}
-use mathlib.Core.Bool.{Bool, true, false, not}
+use mathlib.Core.Bool.{true, false}
 use native.Mathlib.Omega.{arith}
 use mathlib.Core.Path.{◌≡◌, sym, ap, ◌∙◌}
 use Rattle.image.specs.Refusal.{code_refused}
-use borrow.Author.Rules.{rules}
 use Rattle.image.proofs.is_code_refused.Goals as goal
 
 pub returns-then-image-end : goal.returns-then-image-end

@@ -1,14 +1,11 @@
 use Rattle.image.specs.Refusal.{equal_bytes}
-use borrow.Author.Rules.{rules}
 use mathlib.Core.Path.{refl}
 use Rattle.image.specs.Refusal.{some_code_repeated}
 use Rattle.image.specs.Image.{count_of}
 use native.Mathlib.Omega.{arith}
-use mathlib.Core.Path.{sym, ap, ◌∙◌}
+use mathlib.Core.Path.{sym, ◌∙◌}
 use Rattle.image.proofs.Laws.{some_at, some_more}
 use Rattle.image.specs.Refusal.{some_below, code_repeated}
-use Prim.Native.Nat.{◌≤◌, ◌-◌}
-use mathlib.Core.Bool.{false}
 use mathlib.Core.Path.{◌≡◌}
 use Rattle.image.proofs.is_doubled.Goals as goal
 

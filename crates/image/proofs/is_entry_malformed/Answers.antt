@@ -4,7 +4,6 @@ use mathlib.Core.Bool.{true, false}
 use Rattle.kind.specs.declared.Kind.{Kind}
 use Rattle.image.specs.Image.{edition_of, second_at, kind_at}
 use Rattle.image.specs.Refusal.{battery_malformed, entry_malformed}
-use borrow.Author.Rules.{rules}
 use Rattle.image.proofs.is_entry_malformed.Goals as goal
 
 pub returns-then-is_battery_malformed : goal.returns-then-is_battery_malformed

@@ -1,13 +1,12 @@
 use Rattle.image.specs.Refusal.{edition_known, image_malformed}
 use Rattle.image.specs.Image.{count_of, edition_of}
-use borrow.Author.Tests.{lt-ltb, le-ltb, eq-eqb, ne_eqb}
-use lib.Dec.{eqb, ltb}
+use borrow.Author.Tests.{lt-ltb, le-ltb}
+use lib.Dec.{ltb}
 use lib.ListN.{length}
 use Prim.Native.Nat.{◌+◌, ◌*◌}
 use native.Mathlib.Omega.{arith}
 use mathlib.Core.Bool.{true, false}
 use mathlib.Core.Path.{◌≡◌, sym, ◌∙◌}
-use borrow.Author.Rules.{rules}
 use Rattle.image.proofs.is_malformed.Goals as goal
 
 pub returns-then-image-wide : goal.returns-then-image-wide

@@ -1,16 +1,11 @@
 use Rattle.image.specs.Image.{count_of}
-use Prim.Native.Nat.{ℕ}
-use mathlib.Core.Bool.{Bool, true}
-use mathlib.Core.Path.{sym, ap, ◌∙◌}
+use mathlib.Core.Path.{sym, ◌∙◌}
 use Rattle.bits.specs.Crc.{registration_check}
 use Rattle.image.specs.Refusal.{some_code_refused}
-use borrow.Author.Rules.{rules}
 use mathlib.Core.Path.{refl}
 use native.Mathlib.Omega.{arith}
 use Rattle.image.proofs.Laws.{some_at, some_more}
 use Rattle.image.specs.Refusal.{some_below, code_refused}
-use Prim.Native.Nat.{◌≤◌, ◌-◌}
-use mathlib.Core.Bool.{false}
 use mathlib.Core.Path.{◌≡◌}
 use Rattle.image.proofs.is_miscoded.Goals as goal
 

@@ -1,18 +1,4 @@
-use Rattle.image.proofs.Laws.{size-bound, packed-next}
-use Rattle.image.specs.Image.{count_of, family_at, flat_at}
-use lib.ListN.{length}
 use Prim.Native.Nat.{◌≤◌}
-use borrow.Author.Tests.{eq-eqb, ne_eqb}
-use mathlib.Core.Bool.{◌||◌}
-use Prim.Native.Nat.{ℕ}
-use mathlib.Core.Bool.{Bool, true}
-use mathlib.Core.Path.{sym, ap, ◌∙◌}
-use Rattle.image.specs.Refusal.{body_misplaced}
-use Rattle.kind.specs.Kind.{body_size}
-use borrow.Author.Rules.{rules}
-use mathlib.Core.Path.{refl}
-use native.Mathlib.Omega.{arith}
-use Rattle.image.proofs.Laws.{some_at, some_more, packed-bound}
 use Rattle.image.specs.Refusal.{some_below}
 use Rattle.image.specs.Image.{offset_at, packed_at}
 use lib.Dec.{eqb}

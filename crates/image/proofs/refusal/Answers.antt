@@ -1,6 +1,5 @@
 use Rattle.image.specs.Refusal.{first_cause, image_causes, image_refusal}
 use mathlib.Core.Path.{◌∙◌, sym}
-use borrow.Author.Rules.{rules}
 use Rattle.image.proofs.refusal.Goals as goal
 
 pub returns-then-is_malformed : goal.returns-then-is_malformed

@@ -4,9 +4,8 @@ use Prim.Native.Nat.{◌+◌}
 use mathlib.Core.List.{List}
 use borrow.Author.Tests.{eq-eqb, ne_eqb}
 use Prim.Native.Nat.{ℕ}
-use mathlib.Core.Bool.{Bool, true, false, not}
+use mathlib.Core.Bool.{true, false, not}
 use mathlib.Core.Path.{◌≡◌, sym, ap, ◌∙◌}
-use borrow.Author.Rules.{rules}
 use mathlib.Core.Path.{refl}
 use native.Mathlib.Omega.{arith}
 use Rattle.image.proofs.Laws.{some_at, some_more}
@@ -14,7 +13,6 @@ use Rattle.image.specs.Refusal.{some_below, equal_bytes}
 use Rattle.image.specs.Image.{code_at}
 use lib.Dec.{eqb}
 use lib.ListN.{get_or}
-use Prim.Native.Nat.{◌≤◌, ◌-◌}
 use mathlib.Core.Bool.{false, not}
 use mathlib.Core.Path.{◌≡◌}
 use Rattle.image.proofs.same_code.Goals as goal

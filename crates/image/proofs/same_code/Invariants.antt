@@ -1,16 +1,6 @@
-use Rattle.image.proofs.Laws.{code-byte}
-use Rattle.image.specs.Image.{offset_at}
-use Prim.Native.Nat.{◌+◌}
-use mathlib.Core.List.{List}
-use borrow.Author.Tests.{eq-eqb, ne_eqb}
-use Prim.Native.Nat.{ℕ}
-use mathlib.Core.Bool.{Bool, true, false, not}
-use mathlib.Core.Path.{◌≡◌, sym, ap, ◌∙◌}
-use borrow.Author.Rules.{rules}
-use mathlib.Core.Path.{refl}
-use native.Mathlib.Omega.{arith}
-use Rattle.image.proofs.Laws.{some_at, some_more}
-use Rattle.image.specs.Refusal.{some_below, equal_bytes}
+use mathlib.Core.Bool.{false, not}
+use mathlib.Core.Path.{◌≡◌}
+use Rattle.image.specs.Refusal.{some_below}
 use Rattle.image.specs.Image.{code_at}
 use lib.Dec.{eqb}
 use lib.ListN.{get_or}

@@ -1,5 +1,4 @@
 use Rattle.kind.specs.Kind.{body_size}
-use borrow.Author.Rules.{rules}
 use Rattle.kind.proofs.body_size.Goals as goal
 
 pub returns-in-Sram : goal.returns-in-Sram

@@ -1,5 +1,4 @@
 use Rattle.kind.specs.Kind.{has_overdrive}
-use borrow.Author.Rules.{rules}
 use Rattle.kind.proofs.has_overdrive.Goals as goal
 
 pub returns-in-Sram : goal.returns-in-Sram

@@ -1,5 +1,4 @@
 use Rattle.kind.specs.Kind.{is_flat}
-use borrow.Author.Rules.{rules}
 use Rattle.kind.proofs.is_flat.Goals as goal
 
 pub returns-in-Sram : goal.returns-in-Sram

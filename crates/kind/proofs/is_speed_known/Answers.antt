@@ -1,5 +1,4 @@
 use Rattle.kind.specs.Kind.{speed_known}
-use borrow.Author.Rules.{rules}
 use Rattle.kind.proofs.is_speed_known.Goals as goal
 
 pub returns-then-overdrive : goal.returns-then-overdrive

@@ -1,5 +1,4 @@
 use Rattle.kind.specs.Kind.{is_sram}
-use borrow.Author.Rules.{rules}
 use Rattle.kind.proofs.is_sram.Goals as goal
 
 pub returns-in-Sram : goal.returns-in-Sram

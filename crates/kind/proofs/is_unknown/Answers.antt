@@ -1,5 +1,4 @@
 use Rattle.kind.specs.Kind.{is_unknown}
-use borrow.Author.Rules.{rules}
 use Rattle.kind.proofs.is_unknown.Goals as goal
 
 pub returns-in-Sram : goal.returns-in-Sram

@@ -1,5 +1,4 @@
 use Rattle.kind.specs.Kind.{memory_size}
-use borrow.Author.Rules.{rules}
 use Rattle.kind.proofs.memory_size.Goals as goal
 
 pub returns-in-Sram : goal.returns-in-Sram

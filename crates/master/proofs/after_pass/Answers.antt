@@ -1,6 +1,5 @@
 use Rattle.master.specs.Master.{stage_after_pass}
 use borrow.Author.Tests.{le-ltb, lt-ltb}
-use borrow.Author.Rules.{rules}
 use Rattle.master.proofs.after_pass.Goals as goal
 
 pub returns-in-None : goal.returns-in-None

@@ -1,5 +1,4 @@
 use Rattle.master.specs.Master.{answer_of}
-use borrow.Author.Rules.{rules}
 use Rattle.master.proofs.answer_of.Goals as goal
 
 pub returns-in-Fresh : goal.returns-in-Fresh

@@ -1,6 +1,5 @@
 use Rattle.master.specs.Master.{at_discrepancy}
 use borrow.Author.Tests.{le-ltb, lt-ltb}
-use borrow.Author.Rules.{rules}
 use Rattle.master.proofs.at_discrepancy.Goals as goal
 
 pub returns-then-at-open : goal.returns-then-at-open

@@ -1,6 +1,5 @@
 use Rattle.rom.specs.Rom.{addressed}
 use mathlib.Core.Path.{◌∙◌, sym}
-use borrow.Author.Rules.{rules}
 use Rattle.rom.proofs.addressed.Goals as goal
 
 pub returns-then-is_flat : goal.returns-then-is_flat

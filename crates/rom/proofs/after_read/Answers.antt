@@ -1,6 +1,5 @@
 use Rattle.rom.specs.Rom.{after_read}
 use borrow.Author.Tests.{le-ltb, lt-ltb}
-use borrow.Author.Rules.{rules}
 use Rattle.rom.proofs.after_read.Goals as goal
 
 pub returns-then-byte-lt-LAST_BYTE : goal.returns-then-byte-lt-LAST_BYTE

@@ -1,6 +1,5 @@
 use Rattle.rom.specs.Rom.{after_search}
 use borrow.Author.Tests.{le-ltb, lt-ltb}
-use borrow.Author.Rules.{rules}
 use Rattle.rom.proofs.after_search.Goals as goal
 
 pub returns-then-at-lt-LAST_BIT : goal.returns-then-at-lt-LAST_BIT

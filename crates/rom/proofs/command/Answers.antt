@@ -1,6 +1,5 @@
 use Rattle.rom.specs.Rom.{rom_command}
 use borrow.Author.Tests.{ne_eqb}
-use borrow.Author.Rules.{rules}
 use Rattle.rom.proofs.command.Goals as goal
 
 pub returns-in-51 : goal.returns-in-51

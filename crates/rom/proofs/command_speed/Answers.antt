@@ -1,6 +1,5 @@
 use Rattle.rom.specs.Rom.{command_speed}
 use borrow.Author.Tests.{ne_eqb}
-use borrow.Author.Rules.{rules}
 use Rattle.rom.proofs.command_speed.Goals as goal
 
 pub returns-in-60 : goal.returns-in-60

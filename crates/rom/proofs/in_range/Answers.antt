@@ -1,5 +1,4 @@
 use Rattle.rom.specs.Rom.{rom_range}
-use borrow.Author.Rules.{rules}
 use Rattle.rom.proofs.in_range.Goals as goal
 
 pub returns-in-Waiting : goal.returns-in-Waiting

@@ -1,5 +1,4 @@
 use Rattle.rom.specs.Rom.{rom_next}
-use borrow.Author.Rules.{rules}
 use Rattle.rom.proofs.next.Goals as goal
 
 pub returns-in-Waiting : goal.returns-in-Waiting

@@ -1,6 +1,5 @@
 use Rattle.kind.specs.Kind.{has_overdrive}
 use mathlib.Core.Path.{◌∙◌, sym}
-use borrow.Author.Rules.{rules}
 use Rattle.rom.proofs.overdrive_after.Goals as goal
 
 pub returns-then-has_overdrive : goal.returns-then-has_overdrive

@@ -1,7 +1,6 @@
 use Rattle.rom.specs.Rom.{overdrive_command}
-use borrow.Author.Tests.{ne_eqb, not-false, not-true}
+use borrow.Author.Tests.{ne_eqb}
 use mathlib.Core.Path.{◌∙◌, sym}
-use borrow.Author.Rules.{rules}
 use Rattle.rom.proofs.overdrive_command.Goals as goal
 
 pub returns-then-not-has_overdrive : goal.returns-then-not-has_overdrive

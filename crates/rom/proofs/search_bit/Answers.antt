@@ -1,6 +1,5 @@
 use Rattle.rom.specs.Rom.{search_bit}
 use mathlib.Core.Path.{◌∙◌, sym}
-use borrow.Author.Rules.{rules}
 use Rattle.rom.proofs.search_bit.Goals as goal
 
 pub returns-then-bit_at : goal.returns-then-bit_at

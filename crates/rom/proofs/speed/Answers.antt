@@ -1,6 +1,5 @@
 use Rattle.rom.specs.Rom.{rom_speed}
 use mathlib.Core.Path.{sym}
-use borrow.Author.Rules.{rules}
 use Rattle.rom.proofs.speed.Goals as goal
 
 pub returns-in-Waiting : goal.returns-in-Waiting

@@ -1,4 +1,4 @@
-use Rattle.std.proofs.Common.{◌≡◌, ◌≤◌, ◌<◌, ◌+◌, ◌*◌, ◌∙◌, ℕ, suc, Bool, true, false, List, length, refl, sym, ap, arith, add-one}
+use Rattle.std.proofs.Common.{◌≡◌, ◌*◌, ◌∙◌, ℕ, suc, true, false, List, refl, sym, ap, arith, add-one}
 use Rattle.std.proofs.Math.ListN.{set}
 use mathlib.Core.Bool.{true≢false}
 use lib.Seq.{sets}
@@ -9,10 +9,9 @@ use Rattle.bus.specs.Loops.{level_on, turn_states_of}
 use Rattle.master.specs.declared.Master.{Master}
 use Rattle.master.specs.declared.Step.{Step}
 use Rattle.master.specs.Master.{code_bytes, fresh_master, step_of, next_master}
-use Rattle.master.specs.Drive.{code_completed, written_over}
-use Rattle.search_laws.specs.Search.{search_of}
+use Rattle.master.specs.Drive.{code_completed}
 use Rattle.search.specs.Loops.{has_event, event_in}
-use Rattle.search.proofs.Loop.{State, state, exchanges, master_at, level_at, codes_at, sent_in, level_in, step_is, codes-are, goes, ends, codes-done, trace-done, lines-done, fits}
+use Rattle.search.proofs.Loop.{State, state, exchanges, master_at, level_at, codes_at, sent_in, step_is, codes-are, goes, ends, codes-done, trace-done, lines-done, fits}
 use Rattle.search.proofs.exchange.Goals as goal
 
 -- Turn k starts with the master, the level and the codes that step k - 1 left, and takes the step of exchange k.

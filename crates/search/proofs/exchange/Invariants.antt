@@ -1,7 +1,7 @@
 use Rattle.std.proofs.Common.{◌≡◌, ◌≤◌, ◌+◌, ◌-◌, true, false, cond, length}
 use Rattle.master.specs.Master.{fresh_master, step_of}
 use Rattle.search_laws.specs.Search.{search_of}
-use Rattle.search.proofs.Loop.{State, state, exchanges, master_at, level_at, codes_at}
+use Rattle.search.proofs.Loop.{state, exchanges, master_at, level_at, codes_at}
 use Rattle.search.proofs.exchange.Given as goal
 
 -- The loop begins turn `sent` while the master goes on, and it has made all exchanges when the master ends.

@@ -1,7 +1,6 @@
 use Rattle.search.specs.Refusal.{no_search_room}
 use borrow.Author.Tests.{le-ltb, lt-ltb}
 use mathlib.Core.Path.{◌∙◌}
-use borrow.Author.Rules.{rules}
 use Rattle.search.proofs.lacks_room.Goals as goal
 
 pub returns-then-codes-wide : goal.returns-then-codes-wide

@@ -1,11 +1,7 @@
 use Prim.Native.Nat.{◌+◌, ◌-◌, ◌≤◌}
-use mathlib.Core.Path.{◌≡◌, ap, ◌∙◌}
-use mathlib.Core.Bool.{Bool, cond}
-use native.Mathlib.Omega.{arith}
+use mathlib.Core.Path.{◌≡◌}
 use lib.ListN.{length, drop}
-use borrow.Author.Rules.{rules}
 use Rattle.search_laws.specs.Words.{passes_in}
-use Rattle.search.proofs.Counts.{passes-next, passes-end}
 use Rattle.search.proofs.passes_in.Given as goal
 
 abbrev pub invariant-loop-i : goal.invariant-loop-i

@@ -2,8 +2,7 @@ use Rattle.search.proofs.Counts.{room-decides}
 use Rattle.search.specs.Refusal.{search_causes, search_refusal}
 use Rattle.bus.proofs.Laws.{first_some}
 use Rattle.image.specs.Refusal.{image_refusal}
-use mathlib.Core.Path.{◌∙◌, refl, sym}
-use borrow.Author.Rules.{rules}
+use mathlib.Core.Path.{◌∙◌, sym}
 use Rattle.search.proofs.refusal.Goals as goal
 
 pub returns-then-number-ne-ACCEPTED : goal.returns-then-number-ne-ACCEPTED

@@ -1,11 +1,7 @@
 use Prim.Native.Nat.{◌+◌, ◌-◌, ◌≤◌}
 use mathlib.Core.Path.{◌≡◌}
-use native.Mathlib.Omega.{arith}
 use lib.ListN.{length, drop}
-use lib.Seq.{drop-length}
-use borrow.Author.Rules.{rules}
-use Rattle.search_laws.specs.Words.{slots_in, is_slot}
-use Rattle.search.proofs.Counts.{slots_next}
+use Rattle.search_laws.specs.Words.{slots_in}
 use Rattle.search.proofs.slots_in.Given as goal
 
 abbrev pub invariant-loop-i : goal.invariant-loop-i

@@ -1,6 +1,5 @@
 use Rattle.master.specs.Drive.{code_completed}
 use mathlib.Core.Path.{refl}
-use borrow.Author.Rules.{rules}
 use Rattle.search.proofs.stepped.Goals as goal
 
 pub returns : goal.returns

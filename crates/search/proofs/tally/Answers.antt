@@ -1,6 +1,5 @@
 use native.Mathlib.Nat.{sub-zero}
 use Rattle.search.specs.Found.{found_in}
-use borrow.Author.Rules.{rules}
 use Rattle.search.proofs.tally.Goals as goal
 
 pub returns : goal.returns

@@ -1,6 +1,5 @@
 use Prim.Native.Nat.{ℕ, zero, suc, ◌*◌}
-use mathlib.Core.Path.{◌≡◌, refl, ap}
-use borrow.Author.Rules.{rules}
+use mathlib.Core.Path.{◌≡◌, refl}
 use Rattle.master.specs.Drive.{pass_events}
 use Rattle.search_laws.specs.Searched.{events_for}
 use Rattle.search.proofs.trace_room.Goals as goal

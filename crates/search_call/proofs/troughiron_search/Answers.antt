@@ -1,4 +1,3 @@
-use borrow.Author.Rules.{rules}
 use Rattle.search_call.proofs.Laws.{sees-counts, sees-none}
 use Rattle.search_call.proofs.troughiron_search.Goals as goal
 

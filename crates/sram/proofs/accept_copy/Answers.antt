@@ -1,6 +1,5 @@
 use Rattle.sram.specs.Sram.{accept_copy}
 use mathlib.Core.Path.{refl}
-use borrow.Author.Rules.{rules}
 use Rattle.sram.proofs.accept_copy.Goals as goal
 
 pub returns : goal.returns

@@ -1,6 +1,5 @@
 use borrow.Author.Tests.{le-ltb, lt-ltb}
 use Rattle.sram.specs.Sram.{after_data_bit}
-use borrow.Author.Rules.{rules}
 use Rattle.sram.proofs.after_data.Goals as goal
 
 pub returns-then-offset-ge-SCRATCHPAD_LENGTH : goal.returns-then-offset-ge-SCRATCHPAD_LENGTH

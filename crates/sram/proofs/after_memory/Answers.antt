@@ -2,7 +2,6 @@ use Rattle.sram.specs.Sram.{read_memory}
 use Prim.Native.Nat.{◌+◌}
 use native.Mathlib.Omega.{arith}
 use borrow.Author.Tests.{le-ltb}
-use borrow.Author.Rules.{rules}
 use Rattle.sram.proofs.after_memory.Goals as goal
 
 pub returns-else-address-size : goal.returns-else-address-size

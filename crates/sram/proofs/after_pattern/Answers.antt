@@ -1,6 +1,5 @@
 use Rattle.sram.specs.Sram.{after_pattern}
 use borrow.Author.Tests.{le-ltb, lt-ltb}
-use borrow.Author.Rules.{rules}
 use Rattle.sram.proofs.after_pattern.Goals as goal
 
 pub returns-then-at-lt-LAST_REGISTER : goal.returns-then-at-lt-LAST_REGISTER

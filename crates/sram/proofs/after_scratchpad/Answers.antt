@@ -1,6 +1,5 @@
 use Rattle.sram.specs.Sram.{after_scratchpad}
 use borrow.Author.Tests.{le-ltb, lt-ltb}
-use borrow.Author.Rules.{rules}
 use Rattle.sram.proofs.after_scratchpad.Goals as goal
 
 pub returns-then-offset-lt31 : goal.returns-then-offset-lt31

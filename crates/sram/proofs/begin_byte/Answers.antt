@@ -1,6 +1,5 @@
 use Rattle.sram.specs.Sram.{begin_byte}
 use borrow.Author.Tests.{eq-eqb, ne_eqb}
-use borrow.Author.Rules.{rules}
 use Rattle.sram.proofs.begin_byte.Goals as goal
 
 pub returns-then-bit-eq0 : goal.returns-then-bit-eq0

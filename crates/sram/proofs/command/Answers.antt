@@ -1,6 +1,5 @@
 use Rattle.sram.specs.Sram.{sram_command}
 use borrow.Author.Tests.{ne_eqb}
-use borrow.Author.Rules.{rules}
 use Rattle.sram.proofs.command.Goals as goal
 
 pub returns-in-15 : goal.returns-in-15

@@ -1,12 +1,10 @@
 use Rattle.kind.specs.Kind.{scratchpad, memory}
-use lib.ListN.{get_or, set, length-set, length, take, drop}
+use lib.ListN.{get_or, set, length-set}
 use mathlib.Core.Path.{ap, ◌∙◌, ◌≡◌, refl}
 use mathlib.Core.List.{List}
-use Prim.Native.Nat.{ℕ, ◌+◌, ◌≤◌, ◌-◌}
+use Prim.Native.Nat.{ℕ, ◌+◌}
 use Rattle.sram.specs.Sram.{copy_length, copy_bytes, copy_to_memory}
-use borrow.Author.Rules.{rules}
 use Rattle.sram.proofs.Laws.{copy-one-more, copy-in-scratchpad}
-use lib.Seq.{sets}
 use native.Mathlib.Omega.{arith}
 use Rattle.sram.proofs.copy.Goals as goal
 

@@ -1,7 +1,6 @@
 use native.Mathlib.Omega.{arith}
 use borrow.Author.Tests.{lt-ltb, le-ltb, le-leb, lt-leb}
 use Rattle.sram.specs.Sram.{ending_offset, target_address, target_offset, copy_length}
-use borrow.Author.Rules.{rules}
 use Rattle.sram.proofs.copy_length.Goals as goal
 
 pub returns-then-end-offset : goal.returns-then-end-offset

@@ -1,4 +1,3 @@
-use borrow.Author.Rules.{rules}
 use Rattle.sram.proofs.copy_pattern.Goals as goal
 
 pub returns : goal.returns

@@ -2,7 +2,6 @@ use native.Mathlib.Omega.{arith}
 use mathlib.Core.Path.{◌∙◌, sym}
 use borrow.Author.Tests.{lt-ltb, le-ltb}
 use Rattle.sram.specs.Sram.{end_data}
-use borrow.Author.Rules.{rules}
 use Rattle.sram.proofs.end_data.Goals as goal
 
 pub returns-then-sent-eq0 : goal.returns-then-sent-eq0

@@ -1,5 +1,4 @@
 use Rattle.sram.specs.Sram.{sram_range}
-use borrow.Author.Rules.{rules}
 use Rattle.sram.proofs.in_range.Goals as goal
 
 pub returns-in-WriteLow : goal.returns-in-WriteLow

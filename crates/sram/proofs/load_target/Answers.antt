@@ -1,5 +1,4 @@
 use Rattle.sram.specs.Sram.{load_target}
-use borrow.Author.Rules.{rules}
 use Rattle.sram.proofs.load_target.Goals as goal
 
 pub returns : goal.returns

@@ -1,5 +1,4 @@
 use Rattle.sram.specs.Sram.{sram_next}
-use borrow.Author.Rules.{rules}
 use Rattle.sram.proofs.next.Goals as goal
 
 pub returns-in-WriteLow : goal.returns-in-WriteLow

@@ -1,5 +1,4 @@
 use Rattle.sram.specs.Sram.{pattern_same}
-use borrow.Author.Rules.{rules}
 use Rattle.sram.proofs.pattern_same.Goals as goal
 
 pub returns : goal.returns

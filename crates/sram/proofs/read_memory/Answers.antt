@@ -1,6 +1,5 @@
 use Rattle.sram.specs.Sram.{read_memory}
 use borrow.Author.Tests.{le-ltb, lt-ltb}
-use borrow.Author.Rules.{rules}
 use Rattle.sram.proofs.read_memory.Goals as goal
 
 pub returns-then-address-size : goal.returns-then-address-size

@@ -1,4 +1,3 @@
-use borrow.Author.Rules.{rules}
 use Rattle.sram.proofs.read_scratchpad.Goals as goal
 
 pub returns : goal.returns

@@ -1,5 +1,4 @@
 use Rattle.sram.specs.Sram.{sram_reset}
-use borrow.Author.Rules.{rules}
 use Rattle.sram.proofs.reset.Goals as goal
 
 pub returns-in-WriteLow : goal.returns-in-WriteLow

@@ -1,6 +1,5 @@
 use Rattle.sram.specs.Sram.{sram_copy, sram_write}
 use mathlib.Core.Path.{refl}
-use borrow.Author.Rules.{rules}
 use Rattle.sram.proofs.write.Goals as goal
 
 pub returns-in-WriteLow : goal.returns-in-WriteLow

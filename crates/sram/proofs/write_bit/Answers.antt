@@ -1,6 +1,5 @@
 use borrow.Author.Tests.{lt-ltb, le-ltb}
 use Rattle.sram.specs.Sram.{write_bit, store_bit}
-use borrow.Author.Rules.{rules}
 use Rattle.sram.proofs.write_bit.Goals as goal
 
 pub returns-then-offset-ge-SCRATCHPAD_LENGTH : goal.returns-then-offset-ge-SCRATCHPAD_LENGTH

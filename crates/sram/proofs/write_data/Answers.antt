@@ -1,4 +1,3 @@
-use borrow.Author.Rules.{rules}
 use Rattle.sram.proofs.write_data.Goals as goal
 
 pub returns : goal.returns

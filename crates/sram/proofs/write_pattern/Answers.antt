@@ -1,7 +1,6 @@
 use Rattle.sram.specs.Sram.{pattern_copy, pattern_write}
 use borrow.Author.Tests.{le-ltb, lt-ltb}
 use mathlib.Core.Path.{refl}
-use borrow.Author.Rules.{rules}
 use Rattle.sram.proofs.write_pattern.Goals as goal
 
 pub returns-then-at-lt-LAST_REGISTER : goal.returns-then-at-lt-LAST_REGISTER

@@ -1,10 +1,7 @@
-use borrow.Author.Rules.{rules}
 use lib.Seq.{drop-cons, drop-length}
 use native.Mathlib.Numerals.{add-one}
 use native.Mathlib.Omega.{arith}
-use lib.Seq.{sets}
-use lib.ListN.{length, drop}
-use Prim.Native.Nat.{◌≤◌, ◌-◌, ◌+◌}
+use lib.ListN.{length}
 use mathlib.Core.Path.{◌≡◌, refl}
 use Rattle.test_exports.proofs.copy_out.Goals as goal
 

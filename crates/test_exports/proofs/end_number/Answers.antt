@@ -1,5 +1,4 @@
 use Rattle.master.specs.Master.{end_number}
-use borrow.Author.Rules.{rules}
 use Rattle.test_exports.proofs.end_number.Goals as goal
 
 pub returns-in-Done : goal.returns-in-Done

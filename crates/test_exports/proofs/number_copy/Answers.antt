@@ -1,7 +1,6 @@
 use Prim.Native.Nat.{ℕ, ◌-◌, ◌≤◌}
-use mathlib.Core.Path.{◌≡◌, sym, ap, subst, ◌∙◌}
+use mathlib.Core.Path.{sym, ap, subst, ◌∙◌}
 use mathlib.Core.List.{List}
-use native.Mathlib.Omega.{arith}
 use lib.ListN.{length, take, drop, replicate}
 use Rattle.image.specs.Image.{count_of}
 use Rattle.device.specs.declared.LineState.{LineState}
@@ -11,7 +10,6 @@ use Rattle.bus.proofs.Laws.{admitted}
 use Rattle.test_exports.specs.Looked.{looked_after}
 use Rattle.test_exports.specs.Loops.{numbers}
 use Rattle.test_exports.proofs.Numbers.{image-most, copy-length, copy_holds, numbers-shown}
-use borrow.Author.Rules.{rules}
 use Rattle.test_exports.proofs.number_copy.Goals as goal
 
 pub slice_bounds-own-end : goal.slice_bounds-own-end

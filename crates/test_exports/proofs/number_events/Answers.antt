@@ -1,4 +1,4 @@
-use Rattle.std.proofs.Common.{◌≡◌, ◌≤◌, ◌∙◌, ℕ, suc, List, length, get_or, refl, sym, ap, arith, add-one}
+use Rattle.std.proofs.Common.{◌≡◌, ◌≤◌, ◌∙◌, ℕ, suc, List, length, get_or, refl, ap, arith, add-one}
 use Rattle.std.proofs.Math.ListN.{set}
 use Rattle.device.specs.declared.LineState.{LineState}
 use Rattle.bus.specs.declared.EventResult.{EventResult}

@@ -1,6 +1,5 @@
-use mathlib.Core.Path.{sym, ◌∙◌}
+use mathlib.Core.Path.{sym}
 use borrow.Author.Tests.{ne_eqb}
-use borrow.Author.Rules.{rules}
 use Rattle.bus.specs.Bus.{event_of}
 use Rattle.test_exports.specs.Loops.{number_for, number_of}
 use Rattle.test_exports.proofs.Numbers.{no_slot}

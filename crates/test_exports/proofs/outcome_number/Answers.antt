@@ -1,5 +1,4 @@
 use Rattle.test_exports.specs.Outcome.{outcome_byte}
-use borrow.Author.Rules.{rules}
 use Rattle.test_exports.proofs.outcome_number.Goals as goal
 
 pub returns-in-Refused : goal.returns-in-Refused

@@ -1,8 +1,7 @@
-use mathlib.Core.Path.{◌≡◌, sym, ap, ◌∙◌}
+use mathlib.Core.Path.{sym, ap, ◌∙◌}
 use Prim.Native.Nat.{ℕ}
 use Rattle.test_exports.specs.Looked.{looked_after}
 use Rattle.test_exports.proofs.Numbers.{after-refused}
-use borrow.Author.Rules.{rules}
 use Rattle.test_exports.proofs.probe_looked.Goals as goal
 
 pub returns-then-number-eq-ACCEPTED : goal.returns-then-number-eq-ACCEPTED

@@ -1,6 +1,5 @@
 use Rattle.eprom.specs.View.{bytes_to_read}
 use mathlib.Core.Path.{refl}
-use borrow.Author.Rules.{rules}
 use Rattle.test_exports.proofs.probe_remaining.Goals as goal
 
 pub returns : goal.returns

@@ -1,6 +1,5 @@
-use Prim.Native.Nat.{◌<◌, ◌^◌}
 use native.Mathlib.Omega.{arith}
-use lib.Bits.{bit_xor, xor_lt}
+use lib.Bits.{xor_lt}
 use Rattle.bits.proofs.Table.{look_up}
 use Rattle.bits.proofs.crc.crc_byte.Goals as goal
 

@@ -1,15 +1,7 @@
-use Prim.Native.Nat.{ℕ, ◌+◌, ◌-◌, ◌<◌, ◌≤◌}
-use mathlib.Core.Path.{◌≡◌, refl, sym, ap, subst, ◌∙◌}
-use mathlib.Core.List.{List}
-use native.Mathlib.Omega.{arith}
-use native.Mathlib.Numerals.{add-one}
-use borrow.Author.Rules.{rules}
-use lib.Bits.{bit_xor, xor_lt}
-use lib.ListN.{length, drop, get_or}
-use lib.Seq.{drop-cons, drop-length}
+use Prim.Native.Nat.{◌-◌, ◌<◌, ◌≤◌}
+use mathlib.Core.Path.{◌≡◌}
+use lib.ListN.{length, drop}
 use Rattle.bits.specs.Crc.{crc_from}
-use Rattle.bits.proofs.Laws.{crc-byte-fits}
-use Rattle.bits.proofs.Table.{look_up}
 use Rattle.bits.proofs.crc.crc_from.Given as goal
 
 abbrev pub invariant-loop-i : goal.invariant-loop-i

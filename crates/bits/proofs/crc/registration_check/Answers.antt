@@ -1,6 +1,5 @@
 use Rattle.bits.specs.Crc.{registration_check}
 use borrow.Author.Tests.{eq-eqb, ne_eqb}
-use borrow.Author.Rules.{rules}
 use Rattle.bits.proofs.crc.registration_check.Goals as goal
 
 pub returns-then-code-eq8 : goal.returns-then-code-eq8

@@ -1,5 +1,4 @@
 use Rattle.device.specs.Device.{line_state_in_range}
-use borrow.Author.Rules.{rules}
 use Rattle.device.proofs.LineState.in_range.Goals as goal
 
 pub returns : goal.returns

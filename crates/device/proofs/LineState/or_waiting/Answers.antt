@@ -1,6 +1,5 @@
 use Rattle.device.specs.Device.{or_waiting}
 use mathlib.Core.Path.{◌∙◌, sym}
-use borrow.Author.Rules.{rules}
 use Rattle.device.proofs.LineState.or_waiting.Goals as goal
 
 pub returns-then-in_range : goal.returns-then-in_range

@@ -1,6 +1,5 @@
 use Rattle.device.specs.Device.{body_after_pulse, state_after_pulse}
 use mathlib.Core.Path.{refl}
-use borrow.Author.Rules.{rules}
 use Rattle.device.proofs.LineState.pulse.Goals as goal
 
 pub returns : goal.returns

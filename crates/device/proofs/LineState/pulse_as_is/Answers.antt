@@ -1,6 +1,5 @@
 use Rattle.device.specs.Device.{body_after_pulse_as_is, state_after_pulse_as_is}
 use mathlib.Core.Path.{refl}
-use borrow.Author.Rules.{rules}
 use Rattle.device.proofs.LineState.pulse_as_is.Goals as goal
 
 pub returns : goal.returns

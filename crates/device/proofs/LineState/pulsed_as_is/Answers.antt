@@ -1,5 +1,4 @@
 use Rattle.device.specs.Device.{state_after_pulse_as_is}
-use borrow.Author.Rules.{rules}
 use Rattle.device.proofs.LineState.pulsed_as_is.Goals as goal
 
 pub returns : goal.returns

@@ -1,6 +1,5 @@
 use Rattle.device.specs.Device.{body_after_reset}
 use mathlib.Core.Path.{refl}
-use borrow.Author.Rules.{rules}
 use Rattle.device.proofs.LineState.reset.Goals as goal
 
 pub returns : goal.returns

@@ -1,5 +1,4 @@
 use Rattle.device.specs.Device.{sends_of}
-use borrow.Author.Rules.{rules}
 use Rattle.device.proofs.LineState.sends.Goals as goal
 
 pub returns : goal.returns

@@ -1,6 +1,5 @@
 use Rattle.line.specs.Transfers.{transfer_sends}
 use Rattle.device.specs.Device.{sends_as_is}
-use borrow.Author.Rules.{rules}
 use Rattle.device.proofs.LineState.sends_as_is.Goals as goal
 
 pub returns : goal.returns

@@ -1,6 +1,5 @@
 use Rattle.device.specs.Device.{body_after_slot, copy_in_slot, state_after_slot}
 use mathlib.Core.Path.{refl}
-use borrow.Author.Rules.{rules}
 use Rattle.device.proofs.LineState.slot.Goals as goal
 
 pub returns : goal.returns

@@ -1,6 +1,5 @@
 use Rattle.device.specs.Device.{body_after_slot_as_is, copy_in_slot_as_is, speed_after_slot, stage_copy, stage_next, stage_speed, stage_write, state_after_slot_as_is, transfer_after_slot}
 use mathlib.Core.Path.{◌∙◌, refl, sym}
-use borrow.Author.Rules.{rules}
 use Rattle.device.proofs.LineState.slot_as_is.Goals as goal
 
 pub returns-then-goes_on : goal.returns-then-goes_on

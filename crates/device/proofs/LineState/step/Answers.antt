@@ -1,5 +1,4 @@
 use Rattle.device.specs.Device.{state_after_slot}
-use borrow.Author.Rules.{rules}
 use Rattle.device.proofs.LineState.step.Goals as goal
 
 pub returns : goal.returns

@@ -1,6 +1,5 @@
 use Rattle.device.specs.Device.{speed_after_slot, stage_next, stage_speed, state_after_slot_as_is, transfer_after_slot}
 use mathlib.Core.Path.{◌∙◌, sym}
-use borrow.Author.Rules.{rules}
 use Rattle.device.proofs.LineState.step_as_is.Goals as goal
 
 pub returns-then-goes_on : goal.returns-then-goes_on

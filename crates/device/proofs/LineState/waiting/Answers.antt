@@ -1,4 +1,3 @@
-use borrow.Author.Rules.{rules}
 use Rattle.device.proofs.LineState.waiting.Goals as goal
 
 pub returns : goal.returns

@@ -6,7 +6,6 @@ use native.Mathlib.Nat.{le-max_right}
 use lib.Dec.{eqb}
 use lib.Bits.{bit_or, or_zero_r, or_step}
 use mir.Val.{bool_byte}
-use borrow.Author.Rules.{rules}
 use borrow.Author.Tests.{ne_eqb}
 use Rattle.device.specs.Device.{waits}
 use Rattle.device.proofs.LineState.waits.Goals as goal

@@ -1,5 +1,4 @@
 use Rattle.sram.specs.Sram.{bytes_copied}
-use borrow.Author.Rules.{rules}
 use Rattle.device.proofs.Stepped.bytes.Goals as goal
 
 pub returns-in-NoCopy : goal.returns-in-NoCopy

@@ -1,6 +1,5 @@
 use Rattle.bits.specs.Crc.{crc_from}
 use Rattle.eprom.specs.Fields.{command_crc}
-use borrow.Author.Rules.{rules}
 use Rattle.eprom.proofs.fields.command_crc.Goals as goal
 
 pub returns : goal.returns

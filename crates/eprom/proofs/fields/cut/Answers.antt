@@ -1,7 +1,6 @@
 use Rattle.eprom.proofs.Laws.{length-least}
 use native.Mathlib.Omega.{arith}
 use Rattle.eprom.specs.Fields.{cut_address}
-use borrow.Author.Rules.{rules}
 use Rattle.eprom.proofs.fields.cut.Goals as goal
 
 pub nonzero_rem-result : goal.nonzero_rem-result

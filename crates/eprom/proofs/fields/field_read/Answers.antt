@@ -1,5 +1,4 @@
 use Rattle.eprom.specs.Fields.{field_read}
-use borrow.Author.Rules.{rules}
 use Rattle.eprom.proofs.fields.field_read.Goals as goal
 
 pub returns-in-Memory : goal.returns-in-Memory

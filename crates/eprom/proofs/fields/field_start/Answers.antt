@@ -1,5 +1,4 @@
 use Rattle.eprom.specs.Fields.{field_start}
-use borrow.Author.Rules.{rules}
 use Rattle.eprom.proofs.fields.field_start.Goals as goal
 
 pub returns-in-Data : goal.returns-in-Data

@@ -1,5 +1,4 @@
 use Rattle.eprom.specs.Fields.{read_command}
-use borrow.Author.Rules.{rules}
 use Rattle.eprom.proofs.fields.read_command.Goals as goal
 
 pub returns-in-Memory : goal.returns-in-Memory

@@ -1,7 +1,6 @@
 use Rattle.eprom.proofs.Laws.{start-most}
 use native.Mathlib.Omega.{arith}
 use Rattle.eprom.specs.Fields.{stored_byte}
-use borrow.Author.Rules.{rules}
 use Rattle.eprom.proofs.fields.stored.Goals as goal
 
 pub overflow_add-field_start : goal.overflow_add-field_start

@@ -1,5 +1,4 @@
 use Rattle.eprom.specs.Fields.{write_command}
-use borrow.Author.Rules.{rules}
 use Rattle.eprom.proofs.fields.write_command.Goals as goal
 
 pub returns-in-Data : goal.returns-in-Data

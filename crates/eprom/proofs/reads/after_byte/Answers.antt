@@ -1,7 +1,6 @@
 use borrow.Author.Tests.{lt-ltb, le-ltb}
 use mathlib.Core.Path.{sym, ◌∙◌}
 use Rattle.eprom.specs.Reads.{after_byte}
-use borrow.Author.Rules.{rules}
 use Rattle.eprom.proofs.reads.after_byte.Goals as goal
 
 pub returns-then-field_length-address : goal.returns-then-field_length-address

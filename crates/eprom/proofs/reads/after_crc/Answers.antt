@@ -1,7 +1,6 @@
 use Rattle.eprom.specs.Reads.{after_crc}
 use mathlib.Core.Path.{sym}
 use borrow.Author.Tests.{lt-ltb, le-ltb}
-use borrow.Author.Rules.{rules}
 use Rattle.eprom.proofs.reads.after_crc.Goals as goal
 
 pub returns-then-address-field_length : goal.returns-then-address-field_length

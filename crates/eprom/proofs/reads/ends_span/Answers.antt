@@ -1,5 +1,4 @@
 use Rattle.eprom.specs.Reads.{ends_span}
-use borrow.Author.Rules.{rules}
 use Rattle.eprom.proofs.reads.ends_span.Goals as goal
 
 pub returns-in-Memory : goal.returns-in-Memory

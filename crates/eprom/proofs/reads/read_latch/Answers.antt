@@ -1,7 +1,6 @@
 use native.Mathlib.Omega.{arith}
 use Rattle.eprom.specs.Reads.{read_latch}
 use Rattle.eprom.proofs.Laws.{cut_fits}
-use borrow.Author.Rules.{rules}
 use Rattle.eprom.proofs.reads.read_latch.Goals as goal
 
 pub overflow_cast-start : goal.overflow_cast-start

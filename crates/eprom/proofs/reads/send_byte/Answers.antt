@@ -1,5 +1,4 @@
 use Rattle.eprom.specs.Reads.{send_byte}
-use borrow.Author.Rules.{rules}
 use Rattle.eprom.proofs.reads.send_byte.Goals as goal
 
 pub returns : goal.returns

@@ -1,4 +1,3 @@
-use borrow.Author.Rules.{rules}
 use Rattle.eprom.proofs.reads.send_crc.Goals as goal
 
 pub returns : goal.returns

@@ -1,6 +1,5 @@
 use Rattle.eprom.specs.View.{fields_fit}
 use mathlib.Core.Path.{refl}
-use borrow.Author.Rules.{rules}
 use Rattle.eprom.proofs.view.fields_fit.Goals as goal
 
 pub returns : goal.returns

@@ -2,10 +2,9 @@ use Rattle.eprom.proofs.Laws.{cut-within, named, not_named, to_the_end, same_pla
 use Rattle.eprom.specs.Fields.{cut_address}
 use Rattle.eprom.specs.View.{names_data, names_status, bytes_to_read, place_to_read}
 use Rattle.line.specs.declared.Field.TheVariants.{Data, Status}
-use borrow.Author.Tests.{not-true, not-false, ne_eqb}
+use borrow.Author.Tests.{ne_eqb}
 use native.Mathlib.Omega.{arith}
 use mathlib.Core.Path.{◌∙◌, refl, sym}
-use borrow.Author.Rules.{rules}
 use Rattle.eprom.proofs.view.remaining.Goals as goal
 
 pub returns-then-not-fields_fit : goal.returns-then-not-fields_fit

@@ -1,5 +1,4 @@
 use Rattle.eprom.specs.Writes.{after_data_byte}
-use borrow.Author.Rules.{rules}
 use Rattle.eprom.proofs.writes.after_data.Goals as goal
 
 pub returns : goal.returns

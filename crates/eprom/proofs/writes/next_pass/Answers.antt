@@ -4,7 +4,6 @@ use Prim.Native.Nat.{◌+◌}
 use native.Mathlib.Omega.{arith}
 use borrow.Author.Tests.{lt-ltb, le-ltb}
 use Rattle.eprom.proofs.Laws.{length-least}
-use borrow.Author.Rules.{rules}
 use Rattle.eprom.proofs.writes.next_pass.Goals as goal
 
 pub overflow_sub-last : goal.overflow_sub-last

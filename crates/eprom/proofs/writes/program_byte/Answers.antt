@@ -1,7 +1,6 @@
 use native.Mathlib.Omega.{arith}
 use Rattle.eprom.specs.Writes.{programmed_body}
 use Rattle.eprom.proofs.Laws.{start-most}
-use borrow.Author.Rules.{rules}
 use Rattle.eprom.proofs.writes.program_byte.Goals as goal
 
 pub overflow_add-field_start : goal.overflow_add-field_start

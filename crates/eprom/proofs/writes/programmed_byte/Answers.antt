@@ -1,6 +1,5 @@
 use mathlib.Core.Path.{◌∙◌, sym}
 use Rattle.eprom.specs.Writes.{programmed_byte}
-use borrow.Author.Rules.{rules}
 use Rattle.eprom.proofs.writes.programmed_byte.Goals as goal
 
 pub returns-then-protected : goal.returns-then-protected

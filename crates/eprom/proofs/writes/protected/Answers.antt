@@ -1,5 +1,4 @@
 use Rattle.eprom.specs.Writes.{page_protected}
-use borrow.Author.Rules.{rules}
 use Rattle.eprom.proofs.writes.protected.Goals as goal
 
 pub returns-in-Data : goal.returns-in-Data

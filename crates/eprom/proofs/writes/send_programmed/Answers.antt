@@ -1,6 +1,5 @@
 use Rattle.eprom.specs.Writes.{send_stored}
 use Rattle.eprom.proofs.Pulses.{stored-programmed}
-use borrow.Author.Rules.{rules}
 use Rattle.eprom.proofs.writes.send_programmed.Goals as goal
 
 pub returns : goal.returns

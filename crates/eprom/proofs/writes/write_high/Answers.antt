@@ -1,4 +1,3 @@
-use borrow.Author.Rules.{rules}
 use Rattle.eprom.proofs.writes.write_high.Goals as goal
 
 pub returns : goal.returns

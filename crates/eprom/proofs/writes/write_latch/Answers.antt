@@ -1,7 +1,6 @@
 use native.Mathlib.Omega.{arith}
 use Rattle.eprom.specs.Writes.{write_latch}
 use Rattle.eprom.proofs.Laws.{cut_fits}
-use borrow.Author.Rules.{rules}
 use Rattle.eprom.proofs.writes.write_latch.Goals as goal
 
 pub overflow_cast-start : goal.overflow_cast-start

@@ -1,8 +1,6 @@
 use Rattle.master.specs.Master.{master_after_level, step_by_stage, master_at_stage}
-use borrow.Author.Tests.{not-false, not-true}
 use mathlib.Core.Path.{◌∙◌, sym}
 use mathlib.Core.Path.{sym, ap, ◌∙◌}
-use borrow.Author.Rules.{rules}
 use Rattle.master.proofs.Laws.{goes-by-stage, fewer-passes}
 use Rattle.master.specs.declared.Master.{Master}
 use Rattle.master.specs.declared.Stage.TheVariants.{Reset}

@@ -1,6 +1,5 @@
 use Rattle.master.specs.Master.{master_after_command}
 use borrow.Author.Tests.{le-ltb, lt-ltb}
-use borrow.Author.Rules.{rules}
 use Rattle.master.proofs.Master.after_command.Goals as goal
 
 pub returns-then-at : goal.returns-then-at

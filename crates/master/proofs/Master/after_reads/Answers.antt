@@ -1,6 +1,5 @@
 use Rattle.master.specs.Master.{master_after_reads, at_discrepancy, open_after, send_direction, master_at_stage}
 use mathlib.Core.Path.{◌∙◌, sym}
-use borrow.Author.Rules.{rules}
 use Rattle.master.proofs.Master.after_reads.Goals as goal
 
 pub returns-then-second : goal.returns-then-second

@@ -1,6 +1,5 @@
 use Rattle.master.specs.Master.{master_after_reset}
 use borrow.Author.Tests.{eq-eqb, ne_eqb}
-use borrow.Author.Rules.{rules}
 use Rattle.master.proofs.Master.after_reset.Goals as goal
 
 pub returns-then-passes-eq0 : goal.returns-then-passes-eq0

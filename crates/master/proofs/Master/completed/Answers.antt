@@ -1,6 +1,5 @@
 use Rattle.master.specs.Master.{pass_completed}
 use mathlib.Core.Path.{refl}
-use borrow.Author.Rules.{rules}
 use Rattle.master.proofs.Master.completed.Goals as goal
 
 pub returns : goal.returns

@@ -1,6 +1,5 @@
 use Rattle.master.specs.Master.{master_in_range, stage_in_range}
 use borrow.Author.Tests.{le-ltb, lt-ltb}
-use borrow.Author.Rules.{rules}
 use Rattle.master.proofs.Master.in_range.Goals as goal
 
 pub returns-in-Fresh : goal.returns-in-Fresh

@@ -1,7 +1,5 @@
 use Rattle.master.specs.Master.{pass_end}
-use borrow.Author.Tests.{not-false, not-true}
 use mathlib.Core.Path.{◌∙◌, sym}
-use borrow.Author.Rules.{rules}
 use Rattle.master.proofs.Master.pass_end.Goals as goal
 
 pub returns-then-not-registration_check : goal.returns-then-not-registration_check

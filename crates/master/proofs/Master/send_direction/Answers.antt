@@ -1,5 +1,4 @@
 use Rattle.master.specs.Master.{send_direction}
-use borrow.Author.Rules.{rules}
 use Rattle.master.proofs.Master.send_direction.Goals as goal
 
 pub returns : goal.returns

@@ -1,6 +1,5 @@
 use Rattle.master.specs.Master.{answer_value}
 use mathlib.Core.Path.{refl}
-use borrow.Author.Rules.{rules}
 use Rattle.master.proofs.Master.step.Goals as goal
 
 pub returns : goal.returns

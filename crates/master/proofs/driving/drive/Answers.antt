@@ -1,7 +1,6 @@
 use borrow.Author.Tests.{lt-ltb, le-ltb}
 use Rattle.master.specs.Drive.{no_drive_room}
 use Rattle.master.proofs.Stepping.{drive-refused, drive-driven}
-use borrow.Author.Rules.{rules}
 use Rattle.master.proofs.driving.drive.Goals as goal
 
 pub returns-then-trace-trace_room : goal.returns-then-trace-trace_room

@@ -1,6 +1,5 @@
 use Rattle.master.specs.Drive.{code_completed}
 use borrow.Author.Tests.{le-ltb, lt-ltb}
-use borrow.Author.Rules.{rules}
 use Rattle.master.proofs.driving.keep_code.Goals as goal
 
 pub returns-then-before-passes : goal.returns-then-before-passes

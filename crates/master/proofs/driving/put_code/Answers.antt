@@ -1,9 +1,8 @@
 use borrow.Author.Rules.{rules}
 use mathlib.Core.Path.{refl}
 use native.Mathlib.Omega.{arith}
-use lib.Seq.{sets}
-use lib.ListN.{length, drop}
-use Prim.Native.Nat.{◌*◌, ◌≤◌, ◌-◌, ◌+◌}
+use lib.ListN.{length}
+use Prim.Native.Nat.{◌*◌, ◌+◌}
 use borrow.Author.Rules.{rules}
 use native.Mathlib.Nat.{add-zero}
 use Rattle.master.proofs.Stores.{store-next, store-none}

@@ -1,13 +1,7 @@
-use borrow.Author.Rules.{rules}
-use mathlib.Core.Path.{refl}
-use native.Mathlib.Omega.{arith}
 use lib.Seq.{sets}
 use lib.ListN.{length, drop}
-use Prim.Native.Nat.{◌*◌, ◌≤◌, ◌-◌, ◌+◌}
-use borrow.Author.Rules.{rules}
-use native.Mathlib.Nat.{add-zero}
-use Rattle.master.proofs.Stores.{store-next, store-none}
-use mathlib.Core.Path.{sym, ◌∙◌, ◌≡◌}
+use Prim.Native.Nat.{◌≤◌, ◌-◌, ◌+◌}
+use mathlib.Core.Path.{◌≡◌}
 use Rattle.master.proofs.driving.put_code.Given as goal
 
 abbrev pub invariant-loop-i : goal.invariant-loop-i

@@ -1,14 +1,7 @@
-use Rattle.master.specs.Master.{fresh_master, step_of}
-use Rattle.master.specs.declared.Step.{Step}
-use borrow.Author.Rules.{rules}
-use native.Mathlib.Omega.{arith}
-use Rattle.master.proofs.Stepping.{Feeding, stepping-start, feeding-on, feeding-ended, feeding-used}
+use Rattle.master.proofs.Stepping.{Feeding}
 use lib.ListN.{length}
 use Prim.Native.Nat.{◌-◌, ◌≤◌}
-use mathlib.Core.Path.{◌≡◌, refl, sym, ap, ◌∙◌, subst}
-use Rattle.master.specs.declared.Answer.{Answer}
-use Rattle.master.specs.declared.Master.{Master}
-use Rattle.master.proofs.Clock.{reached-passes}
+use mathlib.Core.Path.{◌≡◌}
 use Rattle.master.proofs.driving.step_levels.Given as goal
 
 abbrev pub invariant-loop-end : goal.invariant-loop-end
