@@ -1,4 +1,4 @@
--- What the walk of `search` leaves is what its contract says. Assumes nothing.
+-- What the code of `search` leaves is what its contract says. Assumes nothing.
 use Prim.Native.Nat.{ℕ, zero, suc, ◌*◌, ◌≤◌}
 use mathlib.Core.Path.{◌≡◌, refl, sym, ap, subst, ◌∙◌}
 use mathlib.Core.Bool.{Bool, true, false, not, cond, ◌||◌, true≢false}
