@@ -95,6 +95,8 @@ def clashes(known):
 
 
 def main():
+    if len(sys.argv) > 2 or sys.argv[1:] not in ([], ["--list"], ["--clashes"]):
+        sys.exit(__doc__)
     known = names()
     if "--list" in sys.argv:
         for word in sorted(known):

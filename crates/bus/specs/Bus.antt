@@ -2,11 +2,13 @@
 -- which of them hear an event, what it does to them, the run of a trace, and the bytes that it copies. A level is a
 -- Bool, and false is 0.
 -- Document 01 calls a device a button, the devices on the bus a bench, and a line state a line record.
-use Rattle.std.specs.Prelude.{ℕ, suc, ◌+◌, Bool, true, false, not, cond, ◌&&◌, ◌||◌, ◌≡◌, List, [], ◌∷◌, ◌++◌, map, length, eqb}
+use Rattle.std.specs.Prelude.{ℕ, suc, ◌+◌, Bool, true, false, not, cond, ◌&&◌, ◌||◌, ◌≡◌, List, [], ◌∷◌, ◌++◌, map}
+use Rattle.std.specs.Prelude.{length, eqb}
 use Rattle.bits.specs.Bit.{level_byte}
 use Rattle.kind.specs.declared.Kind.{Kind}
 use Rattle.device.specs.declared.LineState.{LineState}
-use Rattle.device.specs.Device.{waiting_state, reset_state, reset_at, or_waiting, sends_of, state_after_slot, body_after_slot}
+use Rattle.device.specs.Device.{waiting_state, reset_state, reset_at, or_waiting, sends_of, state_after_slot}
+use Rattle.device.specs.Device.{body_after_slot}
 use Rattle.device.specs.Device.{body_after_reset, state_after_pulse, body_after_pulse, bytes_in_slot}
 use Rattle.bus.specs.declared.Event.{Event}
 use Rattle.bus.specs.declared.Event.TheVariants.{Slot, Reset, Pulse, OverdriveSlot, OverdriveReset}

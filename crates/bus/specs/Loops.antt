@@ -1,7 +1,8 @@
 -- Nothing here is from document 01. These definitions say what the functions of `src/` below `run` do, for any image
 -- and any line states, with each loop's state by recursion on how many turns it has made. Where the image is not
 -- refused and there is room, this is what `Bus.antt` and `Run.antt` say (`proofs/Shown.antt`).
-use Rattle.std.specs.Prelude.{ℕ, zero, suc, ◌+◌, ◌-◌, ◌*◌, Bool, true, false, not, cond, ◌&&◌, ◌||◌, List, [], ◌∷◌, ◌++◌, length, get_or, set, take, drop, eqb, ltb, leb}
+use Rattle.std.specs.Prelude.{ℕ, zero, suc, ◌+◌, ◌-◌, ◌*◌, Bool, true, false, not, cond, ◌&&◌, ◌||◌, List, [], ◌∷◌}
+use Rattle.std.specs.Prelude.{◌++◌, length, get_or, set, take, drop, eqb, ltb, leb}
 use Rattle.std.specs.Bool.{beq}
 use Rattle.bits.specs.Bit.{level_byte}
 use Rattle.kind.specs.declared.Kind.{Kind}
@@ -10,9 +11,11 @@ use Rattle.kind.specs.Kind.{body_size}
 use Rattle.image.specs.Image.{count_of, kind_at, offset_at}
 use Rattle.device.specs.declared.LineState.{LineState}
 use Rattle.line.specs.Transfers.{goes_on, last_slot, shifted}
-use Rattle.device.specs.Device.{line_state, waiting_state, waits, reset_at, reset_state, sends_as_is, state_after_slot_as_is}
+use Rattle.device.specs.Device.{line_state, waiting_state, waits, reset_at, reset_state, sends_as_is}
+use Rattle.device.specs.Device.{state_after_slot_as_is}
 use Rattle.device.specs.Device.{body_after_slot_as_is}
-use Rattle.device.specs.Device.{body_after_reset_as_is, state_after_pulse_as_is, body_after_pulse_as_is, bytes_in_slot_as_is}
+use Rattle.device.specs.Device.{body_after_reset_as_is, state_after_pulse_as_is, body_after_pulse_as_is}
+use Rattle.device.specs.Device.{bytes_in_slot_as_is}
 use Rattle.bus.specs.declared.Event.{Event}
 use Rattle.bus.specs.declared.Event.TheVariants.{Slot, Reset, Pulse, OverdriveSlot, OverdriveReset}
 use Rattle.bus.specs.declared.Place.{Place}

@@ -1,6 +1,7 @@
 -- Document 01, 'Refusals in order', and document 02, items 7 and 9, are stated here: the causes 1 to 4, each over the
 -- whole image.
-use Rattle.std.specs.Prelude.{ℕ, zero, suc, ◌+◌, ◌*◌, Bool, false, not, cond, ◌&&◌, ◌||◌, List, [], ◌∷◌, length, get_or, eqb, ltb}
+use Rattle.std.specs.Prelude.{ℕ, zero, suc, ◌+◌, ◌*◌, Bool, false, not, cond, ◌&&◌, ◌||◌, List, [], ◌∷◌, length, get_or}
+use Rattle.std.specs.Prelude.{eqb, ltb}
 use Rattle.bits.specs.Crc.{registration_check}
 use Rattle.kind.specs.declared.Kind.{Kind}
 use Rattle.kind.specs.Kind.{is_eprom, is_unknown}

@@ -8,7 +8,8 @@ ghost use Rattle.image.specs.Image.{count_of, edition_of, family_at, second_at, 
 ghost use Rattle.image.specs.Image.{entry_of};
 ghost use Rattle.image.specs.Refusal.{some_below, equal_bytes, edition_known, battery_malformed, entry_malformed};
 ghost use Rattle.image.specs.Refusal.{image_malformed, image_too_long, body_misplaced};
-ghost use Rattle.image.specs.Refusal.{code_refused, some_code_refused, code_repeated, some_code_repeated, image_refusal};
+ghost use Rattle.image.specs.Refusal.{code_refused, some_code_refused, code_repeated, some_code_repeated};
+ghost use Rattle.image.specs.Refusal.{image_refusal};
 
 use kind::Kind;
 

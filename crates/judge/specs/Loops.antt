@@ -1,7 +1,8 @@
 -- Nothing here is from document 02. These definitions say what the functions of `src/` below `judge` do, for any image,
 -- recording and line states, with each loop's state by recursion on how many turns it has made. Where the recording is
 -- not refused, this is what `Rules.antt` and `Judge.antt` say (`proofs/Shown.antt`).
-use Rattle.std.specs.Prelude.{ℕ, zero, suc, ◌+◌, ◌-◌, ◌*◌, Bool, true, false, not, cond, ◌&&◌, ◌||◌, List, get_or, set, take, drop, eqb, ltb}
+use Rattle.std.specs.Prelude.{ℕ, zero, suc, ◌+◌, ◌-◌, ◌*◌, Bool, true, false, not, cond, ◌&&◌, ◌||◌, List, get_or, set}
+use Rattle.std.specs.Prelude.{take, drop, eqb, ltb}
 use Rattle.std.specs.Bool.{beq}
 use Rattle.bits.specs.Bit.{bit_at}
 use Rattle.kind.specs.declared.Kind.{Kind}

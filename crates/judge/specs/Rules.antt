@@ -1,7 +1,8 @@
 -- Document 02, item 5, is stated here, with item 9: the rules A, B and C, each at an event of a trace on the devices of
 -- a bench, in the words of the run (`Bus.antt` of the crate `bus`). Events are counted from 0. A device takes part in
 -- an event only where it hears it.
-use Rattle.std.specs.Prelude.{ℕ, zero, suc, ◌+◌, ◌-◌, ◌*◌, Bool, true, false, not, cond, ◌&&◌, ◌||◌, List, [], ◌∷◌, ◌++◌, length, get_or, take, eqb, ltb}
+use Rattle.std.specs.Prelude.{ℕ, zero, suc, ◌+◌, ◌-◌, ◌*◌, Bool, true, false, not, cond, ◌&&◌, ◌||◌, List, [], ◌∷◌}
+use Rattle.std.specs.Prelude.{◌++◌, length, get_or, take, eqb, ltb}
 use Rattle.std.specs.Bool.{beq}
 use Rattle.bits.specs.Bit.{bit_at}
 use Rattle.kind.specs.Kind.{ta1, scratchpad}

@@ -1,6 +1,7 @@
 -- Document 01, 'The searching master', is stated here in the words of demand 3. Each is defined for any trace and any
 -- codes.
-use Rattle.std.specs.Prelude.{ℕ, zero, suc, ◌+◌, ◌*◌, ◌-◌, ◌<◌, ◌≡◌, Bool, true, false, cond, ◌&&◌, List, [], ◌∷◌, ◌++◌, length, get_or, take, drop, eqb, ltb}
+use Rattle.std.specs.Prelude.{ℕ, zero, suc, ◌+◌, ◌*◌, ◌-◌, ◌<◌, ◌≡◌, Bool, true, false, cond, ◌&&◌, List, [], ◌∷◌, ◌++◌}
+use Rattle.std.specs.Prelude.{length, get_or, take, drop, eqb, ltb}
 use Rattle.bits.specs.Bit.{bit_at, put_bit}
 use Rattle.bits.specs.Crc.{registration_check}
 use Rattle.image.specs.Image.{family_at, code_at}

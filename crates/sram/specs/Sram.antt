@@ -2,7 +2,8 @@
 -- (item 9): the transfers of the memory functions, which transfer follows which, the body after each, and what a copy
 -- did. The memory has `size` bytes. A device that sends ones until a reset is waiting. These definitions do not test
 -- the numbers of a stage: the crate `device` sees to it that they are in range and that the body has its kind's size.
-use Rattle.std.specs.Prelude.{ℕ, ◌+◌, ◌-◌, ◌*◌, ◌/◌, ◌%◌, Bool, true, cond, not, ◌&&◌, ◌||◌, List, get_or, set, take, drop, ltb, leb, eqb}
+use Rattle.std.specs.Prelude.{ℕ, ◌+◌, ◌-◌, ◌*◌, ◌/◌, ◌%◌, Bool, true, cond, not, ◌&&◌, ◌||◌, List, get_or, set, take}
+use Rattle.std.specs.Prelude.{drop, ltb, leb, eqb}
 use Rattle.std.proofs.lemmas.List.Edits.{sets}
 use Rattle.bits.specs.Bit.{bit_at, with_bit, put_bit}
 use Rattle.kind.specs.Kind.{ta1, ta2, es, scratchpad, memory}

@@ -10,7 +10,8 @@ ghost use Rattle.sram.specs.Sram.{in_sram, address_of, target_address, target_of
 ghost use Rattle.sram.specs.Sram.{write_data_bit, load_target, begin_byte};
 ghost use Rattle.sram.specs.Sram.{write_bit, after_data_bit, end_data, read_register, read_scratchpad, after_register};
 ghost use Rattle.sram.specs.Sram.{after_scratchpad};
-ghost use Rattle.sram.specs.Sram.{copy_pattern, copy_accepted, pattern_same, after_pattern, copy_length, copy_to_memory};
+ghost use Rattle.sram.specs.Sram.{copy_pattern, copy_accepted, pattern_same, after_pattern, copy_length};
+ghost use Rattle.sram.specs.Sram.{copy_to_memory};
 ghost use Rattle.sram.specs.Sram.{accept_copy, copy_writes, copy_made, pattern_copy, sram_copy};
 ghost use Rattle.sram.specs.Sram.{pattern_write, read_memory, data_range, sram_command, sram_next, sram_write};
 ghost use Rattle.sram.specs.Sram.{sram_reset, sram_range};
