@@ -9,7 +9,7 @@ ghost use Rattle.image.specs.Image.{entry_of};
 ghost use Rattle.image.specs.Refusal.{some_below, equal_bytes, edition_known, battery_malformed, entry_malformed};
 ghost use Rattle.image.specs.Refusal.{image_malformed, image_too_long, body_misplaced};
 ghost use Rattle.image.specs.Refusal.{code_refused, some_code_refused, code_repeated, some_code_repeated};
-ghost use Rattle.image.specs.Refusal.{image_refusal};
+ghost use Rattle.image.specs.Refusal.{image_refusal, refusal_number, number_of};
 
 use kind::Kind;
 
@@ -20,7 +20,47 @@ pub struct Entry {
     pub start: usize,
 }
 
-// The number 0 means that nothing is refused.
+// An image, a run or a search is refused for one of these causes, and the first that applies is given.
+#[derive(Clone, Copy, Debug, PartialEq, Eq)]
+pub enum Refusal {
+    // The image is too short for its entries, has over 64 devices or an unknown edition, or an entry is malformed.
+    MalformedImage,
+    // A body is not at its packed place, or the image is of another length, or too long.
+    MisplacedBody,
+    // A code has a wrong CRC, or another family than its entry.
+    WrongCode,
+    // Two codes are equal.
+    EqualCodes,
+    // The trace is too long, or has a byte that is no event.
+    BadTrace,
+    // The trace does not begin with a regular reset.
+    NoFirstReset,
+    // The trace has a program pulse while a device is not a DS1982.
+    BadPulse,
+    // A buffer is too short, or there are too few line states.
+    NoRoom,
+}
+
+// A C program is told a refusal by its number.
+impl From<Refusal> for u32 {
+    ghost from_gives = { λ refusal number. number ≡ refusal_number refusal };
+
+    #[tactic(auto, unfolding(crate::specs::Refusal::refusal_number))]
+    fn from(refusal: Refusal) -> u32 {
+        match refusal {
+            Refusal::MalformedImage => 1,
+            Refusal::MisplacedBody => 2,
+            Refusal::WrongCode => 3,
+            Refusal::EqualCodes => 4,
+            Refusal::BadTrace => 5,
+            Refusal::BadPulse => 6,
+            Refusal::NoRoom => 7,
+            Refusal::NoFirstReset => 11,
+        }
+    }
+}
+
+// A C program is told by the number 0 that nothing is refused.
 pub const ACCEPTED: u32 = 0;
 
 // An image of more bytes than this is refused.
@@ -240,24 +280,22 @@ fn is_doubled(image: &[u8]) -> bool
     false
 }
 
-// An image is refused with the number of the first cause that applies, 1 to 4; the number is 0 where none does.
-pub fn refusal(image: &[u8]) -> u32
-    ensures { result ≡ image_refusal image.now }
+// An image is refused for the first cause that applies.
+#[tactic(auto, unfolding(crate::specs::Refusal::number_of, crate::specs::Refusal::refusal_number, crate::specs::Refusal::image_refusal, crate::specs::Refusal::image_causes, crate::specs::Refusal::first_cause,))]
+pub fn check(image: &[u8]) -> Result<(), Refusal>
+    ensures { number_of result ≡ image_refusal image.now }
 {
     if is_malformed(image) {
-        return 1;
+        return Err(Refusal::MalformedImage);
     }
-    if is_too_long(image) {
-        return 2;
-    }
-    if is_misplaced(image) {
-        return 2;
+    if is_too_long(image) || is_misplaced(image) {
+        return Err(Refusal::MisplacedBody);
     }
     if is_miscoded(image) {
-        return 3;
+        return Err(Refusal::WrongCode);
     }
     if is_doubled(image) {
-        return 4;
+        return Err(Refusal::EqualCodes);
     }
-    ACCEPTED
+    Ok(())
 }
