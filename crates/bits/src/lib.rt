@@ -66,6 +66,7 @@ pub fn with_bit(byte: u8, i: u8, level: bool) -> u8
 }
 
 // This is bit i of a slice, or 0 past its end.
+// As it is: the place below 8 is cast, here and in `put_bit`, as no From goes from usize to u8 and it needs no test.
 #[tactic(auto, unfolding(crate::specs::Bit::bit_at))]
 pub fn bit_at(s: &[u8], i: usize) -> bool
     ensures { result ≡ bit_at s.now i }
