@@ -58,10 +58,10 @@ pub fn with_bit(byte: u8, i: u8, level: bool) -> u8
     if 8 <= i {
         return byte;
     }
-    if bit_of(byte, i) {
-        if level { byte } else { byte - power(i) }
-    } else {
-        if level { byte + power(i) } else { byte }
+    match (bit_of(byte, i), level) {
+        (true, false) => byte - power(i),
+        (false, true) => byte + power(i),
+        _ => byte,
     }
 }
 

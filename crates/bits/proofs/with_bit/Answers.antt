@@ -13,7 +13,7 @@ unfolding bit_of
 overflow_sub-result c =
     let a = c.args in
     let set : a.byte / 2 ^ a.i % 2 ≡ 1 =
-    eqb-true _ _ (sym c.bit_of.ensures ∙ c.if-bit_of.true) in
+    eqb-true _ _ (sym (c.in-true-false.ensures tt)) in
     omega (arith, set_below a.byte a.i c.if-i-ge8.false set)
 
 pub overflow_add-result : goal.overflow_add-result
@@ -21,5 +21,5 @@ unfolding bit_of
 overflow_add-result c =
     let a = c.args in
     let clear : (a.byte / 2 ^ a.i % 2 ≡ 1 → ⊥) =
-    eqb-false _ _ (sym c.bit_of.ensures ∙ c.if-bit_of.false) in
+    eqb-false _ _ (sym (c.in-false-true.ensures tt)) in
     omega (arith, clear_room a.byte (search rules) a.i c.if-i-ge8.false clear)
