@@ -81,6 +81,7 @@ fn ending_offset(body: &[u8]) -> u8
 }
 
 // TA1 and TA2 load an address exactly as it was sent, also where it is past the end of the memory.
+#[tactic(auto, unfolding(crate::specs::Sram::load_address))]
 fn load_address(low: u8, high: u8, body: &mut [u8])
     ensures { body.new ≡ load_address low high body.old }
 {
@@ -98,6 +99,7 @@ fn write_data(offset: u8, bit: u8) -> Transfer
 }
 
 // The next data bit has the next place; once offset 31 is complete, the place stays.
+#[tactic(auto, unfolding(crate::specs::Sram::after_data_bit))]
 fn after_data(offset: u8, bit: u8) -> Transfer
     ensures { result ≡ after_data_bit offset bit }
 {
@@ -112,6 +114,7 @@ fn after_data(offset: u8, bit: u8) -> Transfer
 }
 
 // With the last bit of its address, a write to the scratchpad loads the registers and clears the flags.
+#[tactic(auto, unfolding(crate::specs::Sram::load_target))]
 fn load_target(low: u8, high: u8, body: &mut [u8])
     ensures { body.new ≡ load_target low high body.old }
 {
@@ -120,6 +123,7 @@ fn load_target(low: u8, high: u8, body: &mut [u8])
 }
 
 // The first bit of a data byte makes that byte's offset the ending offset; the flags stay.
+#[tactic(auto, unfolding(crate::specs::Sram::begin_byte))]
 fn begin_byte(offset: u8, bit: u8, body: &mut [u8])
     requires { offset < 32 }
     ensures { body.new ≡ begin_byte offset bit body.old }
@@ -135,6 +139,7 @@ fn begin_byte(offset: u8, bit: u8, body: &mut [u8])
 }
 
 // A data bit goes into the scratchpad at once; one that comes after offset 31 is complete only sets OF.
+#[tactic(auto, unfolding(crate::specs::Sram::write_bit, crate::specs::Sram::store_bit))]
 fn write_bit(offset: u8, bit: u8, body: &mut [u8], level: bool)
     ensures { body.new ≡ write_bit offset bit body.old level }
 {
@@ -149,6 +154,7 @@ fn write_bit(offset: u8, bit: u8, body: &mut [u8], level: bool)
 }
 
 // A reset after 1 to 7 bits of a data byte sets PF, unless OF is set.
+#[tactic(auto, unfolding(crate::specs::Sram::end_data))]
 fn end_data(sent: u8, body: &mut [u8])
     ensures { body.new ≡ end_data sent body.old }
 {
@@ -184,6 +190,7 @@ fn read_scratchpad(offset: u8, body: &[u8]) -> Transfer
 }
 
 // After TA1 and TA2 the next register is sent, after E/S the scratchpad from T4:T0 on.
+#[tactic(auto, unfolding(crate::specs::Sram::after_register))]
 fn after_register(at: u8, body: &[u8]) -> Transfer
     ensures { result ≡ after_register at body.now }
 {
@@ -195,6 +202,7 @@ fn after_register(at: u8, body: &[u8]) -> Transfer
 }
 
 // After a byte of the scratchpad the next one is sent, and ones after offset 31.
+#[tactic(auto, unfolding(crate::specs::Sram::after_scratchpad))]
 fn after_scratchpad(offset: u8, body: &[u8]) -> Transfer
     ensures { result ≡ after_scratchpad offset body.now }
 {
@@ -223,6 +231,7 @@ fn copied() -> Transfer
 
 // The pattern is still equal if the bytes before this one were (`same`) and this one is equal to its register. Every
 // flag of E/S counts.
+#[tactic(auto, unfolding(crate::specs::Sram::pattern_same))]
 fn pattern_same(at: u8, same: bool, value: u8, body: &[u8]) -> bool
     ensures { result ≡ pattern_same at same value body.now }
 {
@@ -230,6 +239,7 @@ fn pattern_same(at: u8, same: bool, value: u8, body: &[u8]) -> bool
 }
 
 // The third byte of the pattern decides: after an equal pattern the device sends zeros, else ones.
+#[tactic(auto, unfolding(crate::specs::Sram::after_pattern))]
 fn after_pattern(at: u8, same: bool) -> Transfer
     ensures { result ≡ after_pattern at same }
 {
@@ -240,6 +250,7 @@ fn after_pattern(at: u8, same: bool) -> Transfer
 }
 
 // A copy writes no byte if the ending offset is below T4:T0 or the target is past memory.
+#[tactic(auto, unfolding(crate::specs::Sram::copy_length))]
 fn copy_length(size: u16, body: &[u8]) -> u8
     ensures { result ≡ copy_length size body.now }
 {
@@ -275,6 +286,7 @@ fn copy(size: u16, body: &mut [u8]) -> Written
 }
 
 // A pattern that is equal to the registers makes the copy, and sets AA even if no byte is written.
+#[tactic(auto, unfolding(crate::specs::Sram::accept_copy))]
 fn accept_copy(size: u16, body: &mut [u8]) -> CopyDone
     ensures { (result ≡ copy_made size body.old)
         × (body.new ≡ accept_copy size body.old) }
@@ -288,6 +300,7 @@ fn accept_copy(size: u16, body: &mut [u8]) -> CopyDone
 }
 
 // Only the third byte of the pattern can make a copy and change the body, and only if the whole pattern is equal.
+#[tactic(auto, unfolding(crate::specs::Sram::pattern_write, crate::specs::Sram::pattern_copy))]
 fn write_pattern(at: u8, same: bool, size: u16, body: &mut [u8]) -> CopyDone
     ensures { (result ≡ pattern_copy at same size body.old)
         × (body.new ≡ pattern_write at same size body.old) }
@@ -304,6 +317,7 @@ fn write_pattern(at: u8, same: bool, size: u16, body: &mut [u8]) -> CopyDone
 // ---- read memory
 
 // The device sends the byte of the memory at an address, or ones past the end of the memory.
+#[tactic(auto, unfolding(crate::specs::Sram::read_memory))]
 fn read_memory(address: u16, size: u16, body: &[u8]) -> Transfer
     ensures { result ≡ read_memory address size body.now }
 {
@@ -320,6 +334,7 @@ fn read_memory(address: u16, size: u16, body: &[u8]) -> Transfer
 }
 
 // After a byte of the memory the next one is sent. The comparison keeps the sum from overflowing.
+#[tactic(auto, unfolding(crate::specs::Sram::read_memory))]
 fn after_memory(address: u16, size: u16, body: &[u8]) -> Transfer
     ensures { result ≡ read_memory (address + 1) size body.now }
 {
@@ -333,6 +348,7 @@ fn after_memory(address: u16, size: u16, body: &[u8]) -> Transfer
 // ---- every function
 
 // A memory command leads to the first transfer of its function, and any other command to waiting.
+#[tactic(auto, unfolding(crate::specs::Sram::sram_command))]
 pub fn command(value: u8, body: &[u8]) -> Transfer
     ensures { result ≡ sram_command value body.now }
 {
@@ -346,6 +362,7 @@ pub fn command(value: u8, body: &[u8]) -> Transfer
 }
 
 // When the transfer of a stage ends, in which `value` was received, this transfer follows it.
+#[tactic(auto, unfolding(crate::specs::Sram::sram_next))]
 pub fn next(s: SramStage, size: u16, value: u8, body: &[u8]) -> Transfer
     ensures { result ≡ sram_next s size value body.now }
 {
@@ -368,6 +385,7 @@ pub fn next(s: SramStage, size: u16, value: u8, body: &[u8]) -> Transfer
 
 // This changes the body as the end of a transfer does, in which `value` was received and whose last slot was at
 // `level`, and says what a copy did.
+#[tactic(auto, unfolding(crate::specs::Sram::sram_write, crate::specs::Sram::sram_copy))]
 pub fn write(s: SramStage, size: u16, value: u8, body: &mut [u8], level: bool) -> CopyDone
     ensures { (result ≡ sram_copy s size value body.old)
         × (body.new ≡ sram_write s size value body.old level) }
@@ -399,6 +417,7 @@ pub fn write(s: SramStage, size: u16, value: u8, body: &mut [u8], level: bool) -
 }
 
 // A reset changes the body only where it cuts off a data byte.
+#[tactic(auto, unfolding(crate::specs::Sram::sram_reset))]
 pub fn reset(s: SramStage, body: &mut [u8])
     ensures { body.new ≡ sram_reset s body.old }
 {
@@ -417,6 +436,7 @@ pub fn reset(s: SramStage, body: &mut [u8])
 }
 
 // A data bit has a place in the scratchpad, or it comes after offset 31 is complete.
+#[tactic(auto, unfolding(crate::specs::Sram::data_range))]
 fn data_in_range(offset: u8, bit: u8) -> bool
     ensures { result ≡ data_range offset bit }
 {
@@ -428,6 +448,7 @@ fn data_in_range(offset: u8, bit: u8) -> bool
 }
 
 // This tells whether the numbers of a transfer of this stage are in their range.
+#[tactic(auto, unfolding(crate::specs::Sram::sram_range))]
 pub fn in_range(s: SramStage, size: u16, left: u8) -> bool
     ensures { result ≡ sram_range s size left }
 {
