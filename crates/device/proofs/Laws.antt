@@ -17,8 +17,8 @@ use Rattle.line.specs.declared.Stage.{Stage}
 use Rattle.line.specs.declared.Stage.TheVariants.{Rom, Memory}
 use Rattle.line.specs.Transfers.{waiting, at_memory_command, transfer_sends, goes_on, received, shifted}
 use Rattle.line.proofs.Range.{both}
-use Rattle.sram.specs.declared.CopyDone.{CopyDone}
-use Rattle.sram.specs.declared.CopyDone.TheVariants.{NoCopy}
+use Rattle.std.specs.Prelude.{Option, None}
+use Rattle.sram.specs.declared.Written.{Written}
 use Rattle.sram.specs.Sram.{bytes_copied}
 use Rattle.sram.proofs.Laws.{copied-most}
 use Rattle.rom.specs.Rom.{addressed, rom_next, rom_speed}
@@ -166,7 +166,7 @@ most-in-slot state kind body level =
     choose (stage_copy t.stage kind (received t level) body) (goes_on t)
     (stage-copies t.stage kind (received t level) body)
   where
-    choose : (c : CopyDone) (more : Bool) → bytes_copied c ≤ 32 → bytes_copied (cond more NoCopy c) ≤ 32
+    choose : (c : Option Written) (more : Bool) → bytes_copied c ≤ 32 → bytes_copied (cond more None c) ≤ 32
     choose c true h = omega arith
     choose c false h = h
 
@@ -200,10 +200,10 @@ module _ (state : LineState) (r : RomStage) (in-rom : state.transfer.stage ≡ R
   unfolding bytes_in_slot_as_is copy_in_slot_as_is stage_copy bytes_copied
   rom-copies-as-is level =
       let t = state.transfer in
-      ap (λ (s : Stage). bytes_copied (cond (goes_on t) NoCopy (stage_copy s kind (received t level) body))) in-rom
+      ap (λ (s : Stage). bytes_copied (cond (goes_on t) None (stage_copy s kind (received t level) body))) in-rom
       ∙ none (goes_on t)
     where
-      none : (more : Bool) → bytes_copied (cond more NoCopy NoCopy) ≡ 0
+      none : (more : Bool) → bytes_copied (cond more None None) ≡ 0
       none true = refl
       none false = refl
 
