@@ -6,7 +6,7 @@
 #![tactic(auto)]
 
 ghost use Rattle.std.specs.Prelude.{◌≡◌, ◌+◌, ◌<◌};
-ghost use Rattle.sram.specs.Sram.{in_sram, address_of, target_address, target_offset, ending_offset, load_address};
+ghost use Rattle.sram.specs.Sram.{in_sram, target_address, target_offset, ending_offset, load_address};
 ghost use Rattle.sram.specs.Sram.{write_data_bit, load_target, begin_byte};
 ghost use Rattle.sram.specs.Sram.{write_bit, after_data_bit, end_data, read_register, read_scratchpad, after_register};
 ghost use Rattle.sram.specs.Sram.{after_scratchpad};
@@ -44,20 +44,14 @@ fn in_sram(s: SramStage) -> Stage
 
 // ---- the registers
 
-fn address_of(low: u8, high: u8) -> u16
-    ensures { result ≡ address_of low high }
-{
-    u16::from_le_bytes([low, high])
-}
-
 // The target address is held in TA1 and TA2.
 fn target(body: &[u8]) -> u16
     ensures { result ≡ target_address body.now }
 {
-    address_of(
+    u16::from_le_bytes([
         bits::byte_at(body, kind::TA1),
         bits::byte_at(body, kind::TA2),
-    )
+    ])
 }
 
 // T4:T0 of the target address are the offset in the scratchpad that it names.
@@ -256,6 +250,7 @@ fn copy_length(size: u16, body: &[u8]) -> u8
 
 // A copy takes the scratchpad from T4:T0 through the ending offset to memory at the target, and says where it wrote and
 // how many bytes. It may go byte by byte, as the two parts of the body do not overlap.
+// As it is: `copy_within` would ask that both parts lie in the body, while `copy_to_memory` takes a body of any size.
 #[tactic(auto, unfolding(crate::specs::Sram::copy_to_memory, crate::specs::Sram::copy_bytes))]
 fn copy(size: u16, body: &mut [u8]) -> Written
     ensures { (result ≡ copy_writes size body.old)
@@ -358,8 +353,10 @@ pub fn next(s: SramStage, size: u16, value: u8, body: &[u8]) -> Transfer
         ),
         SramStage::Copied => copied(),
         SramStage::ReadLow => line::listening(in_sram(SramStage::ReadHigh { low: value })),
-        SramStage::ReadHigh { low } => read_memory(address_of(low, value), size, body),
-        SramStage::ReadMemory { low, high } => after_memory(address_of(low, high), size, body),
+        SramStage::ReadHigh { low } => { read_memory(u16::from_le_bytes([low, value]), size, body) }
+        SramStage::ReadMemory { low, high } => {
+            after_memory(u16::from_le_bytes([low, high]), size, body)
+        }
     }
 }
 
@@ -421,7 +418,7 @@ pub fn in_range(s: SramStage, size: u16, left: u8) -> bool
             offset < kind::SCRATCHPAD_LENGTH && line::under_way(8, left)
         }
         SramStage::ReadMemory { low, high } => {
-            address_of(low, high) < size && line::under_way(8, left)
+            u16::from_le_bytes([low, high]) < size && line::under_way(8, left)
         }
         _ => line::under_way(8, left),
     }
