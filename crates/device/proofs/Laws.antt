@@ -12,7 +12,7 @@ use Rattle.kind.specs.declared.Kind.{Kind}
 use Rattle.kind.specs.Kind.{body_size, code_length, memory_size, is_flat, speed_known}
 use Rattle.line.specs.declared.RomStage.{RomStage}
 use Rattle.line.specs.declared.RomStage.TheVariants.{Waiting}
-use Rattle.line.specs.declared.MemoryStage.TheVariants.{Command, Sram, Eprom}
+use Rattle.line.specs.declared.MemoryStage.TheVariants.{Sram}
 use Rattle.line.specs.declared.Stage.{Stage}
 use Rattle.line.specs.declared.Stage.TheVariants.{Rom, Memory}
 use Rattle.line.specs.Transfers.{waiting, at_memory_command, transfer_sends, goes_on, received, shifted}
@@ -153,10 +153,8 @@ module _ (state : LineState) (kind : Kind) (body : List ℕ) (level : Bool) (mor
 stage-copies : (stage : Stage) (kind : Kind) (value : ℕ) (body : List ℕ)
     → bytes_copied (stage_copy stage kind value body) ≤ 32
 unfolding stage_copy memory_copy bytes_copied
-stage-copies (Rom r) kind value body = omega arith
-stage-copies (Memory Command) kind value body = omega arith
 stage-copies (Memory (Sram s)) kind value body = copied-most s (memory_size kind) value body
-stage-copies (Memory (Eprom e)) kind value body = omega arith
+stage-copies _ kind value body = omega arith
 
 most-in-slot : (state : LineState) (kind : Kind) (body : List ℕ) (level : Bool)
     → bytes_in_slot_as_is state kind body level ≤ 32
