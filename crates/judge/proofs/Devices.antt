@@ -19,8 +19,8 @@ use Rattle.line.specs.declared.MemoryStage.TheVariants as memories
 use Rattle.line.specs.declared.Stage.{Stage}
 use Rattle.line.specs.declared.Stage.TheVariants.{Rom, Memory}
 use Rattle.line.specs.Transfers.{goes_on, received}
-use Rattle.sram.specs.declared.CopyDone.{CopyDone}
-use Rattle.sram.specs.declared.CopyDone.TheVariants.{NoCopy}
+use Rattle.sram.specs.declared.Written.{Written}
+use Rattle.std.specs.Prelude.{Option, None}
 use Rattle.sram.specs.Sram.{sram_copy, pattern_copy, pattern_same, copy_made}
 use Rattle.device.specs.declared.LineState.{LineState}
 use Rattle.device.specs.Device.{memory_copy, stage_copy, copy_in_slot_as_is, copy_in_slot, memory_range, stage_range, line_state_in_range}
@@ -103,7 +103,7 @@ none_of : (last shown : Bool) → false ≡ ((last && false) && not shown)
 none_of true shown = refl
 none_of false shown = refl
 
-made-cond : (x y : Bool) (c : CopyDone) → is_made c ≡ true → (not x && y) ≡ is_made (cond x NoCopy (cond y c NoCopy))
+made-cond : (x y : Bool) (c : Option Written) → is_made c ≡ true → (not x && y) ≡ is_made (cond x None (cond y c None))
 unfolding is_made
 made-cond true y c e = refl
 made-cond false true c e = sym e
@@ -154,7 +154,7 @@ careless-stage (Memory (memories.Eprom x)) kind overdrive register left ok last 
 
 -- ---- what a moment says in a slot
 
-made-last : (x : Bool) (c : CopyDone) → is_made (cond x NoCopy c) ≡ (not x && is_made c)
+made-last : (x : Bool) (c : Option Written) → is_made (cond x None c) ≡ (not x && is_made c)
 unfolding is_made
 made-last true c = refl
 made-last false c = refl

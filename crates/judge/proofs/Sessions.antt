@@ -17,7 +17,7 @@ use Rattle.line.specs.declared.RomStage.TheVariants.{Waiting}
 use Rattle.line.specs.declared.Stage.{Stage}
 use Rattle.line.specs.declared.Stage.TheVariants.{Rom}
 use Rattle.line.specs.Transfers.{goes_on, received}
-use Rattle.sram.specs.declared.CopyDone.TheVariants.{NoCopy}
+use Rattle.std.specs.Prelude.{None}
 use Rattle.device.specs.declared.LineState.{LineState}
 use Rattle.device.specs.Device.{waiting_state, stage_copy, copy_in_slot_as_is, copy_in_slot, line_state_in_range, or_waiting}
 use Rattle.bus.specs.Bus.{Device, event_of, taken_state, hears, run_trace, is_slot}
@@ -67,7 +67,7 @@ no-command command m r e =
     ap (λ (s : Stage). heard_slot m && (is_memory_command s && (is_last m.device && eqb (received m.device.state.transfer m.level) command))) e
     ∙ and_none (heard_slot m)
 
-none_made : (x : Bool) → is_made (cond x NoCopy NoCopy) ≡ false
+none_made : (x : Bool) → is_made (cond x None None) ≡ false
 unfolding is_made
 none_made true = refl
 none_made false = refl
@@ -75,7 +75,7 @@ none_made false = refl
 no-copy-as-is : (s : LineState) (r : RomStage) → s.transfer.stage ≡ Rom r → (kind : Kind) (body : List ℕ) (level : Bool) → is_made (copy_in_slot_as_is s kind body level) ≡ false
 unfolding copy_in_slot_as_is stage_copy
 no-copy-as-is s r e kind body level =
-    ap (λ (x : Stage). is_made (cond (goes_on s.transfer) NoCopy (stage_copy x kind (received s.transfer level) body))) e ∙ none_made (goes_on s.transfer)
+    ap (λ (x : Stage). is_made (cond (goes_on s.transfer) None (stage_copy x kind (received s.transfer level) body))) e ∙ none_made (goes_on s.transfer)
 
 no_copy : (m : Moment) (r : RomStage) → m.device.state.transfer.stage ≡ Rom r → accepts_copy m ≡ false
 unfolding accepts_copy copy_in_slot or_waiting
