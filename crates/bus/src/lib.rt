@@ -5,17 +5,17 @@
 // them only fetch, call and store.
 #![tactic(auto)]
 
-ghost use Rattle.std.specs.Prelude.{◌≡◌, ◌≤◌, ◌+◌, ◌-◌, true, false, not, ◌||◌, length, eqb, ltb};
+ghost use Rattle.std.specs.Prelude.{◌≡◌, ◌≤◌, ◌+◌, ◌-◌, true, false, not, length, eqb, ltb};
 ghost use Rattle.image.specs.Image.{count_of, kind_at};
 ghost use Rattle.image.specs.Refusal.{some_below, number_of};
 ghost use Rattle.kind.specs.Kind.{is_eprom};
-ghost use Rattle.bus.specs.Bus.{event_of, hears, master_high, is_slot, is_overdrive};
+ghost use Rattle.bus.specs.Bus.{event_of, hears, master_high, read_slot, is_slot, is_overdrive};
 ghost use Rattle.bus.specs.Refusal.{some_byte, bad_trace, no_first_reset, bad_pulse, no_run_room};
 ghost use Rattle.bus.specs.Refusal.{run_refusal};
 ghost use Rattle.bus.specs.Run.{RunLeaves, run_of, run_told};
 ghost use Rattle.bus.specs.Loops.{place_in, asked_of, goes_on_at, scan_where, turn_state, turn_image, leaves_high};
 ghost use Rattle.bus.specs.Loops.{slot_byte, image_with_body, body_in, moves_in, ends_in, passes_from, shifted_from};
-ghost use Rattle.bus.specs.Loops.{turn_copied, slot_turn, added_to, copied_up_to, copied_on, event_result};
+ghost use Rattle.bus.specs.Loops.{turn_copied, slot_turn, copied_up_to, copied_on, event_result};
 ghost use Rattle.bus.specs.Loops.{copied_by_events, heard_state_as_is, heard_body_as_is, device_in};
 ghost use Rattle.bus.specs.Loops.{fewer_of, scan_on, step_on};
 ghost use Rattle.bus.specs.Loops.{turn_states_of, bus_state, turns_up_to, filled_up_to, run_state, run_events_up_to};
@@ -108,6 +108,14 @@ impl Event {
         matches!(self, Event::OverdriveSlot(_) | Event::OverdriveReset)
     }
 
+    // The master sends 1 in the slot, at either speed.
+    #[tactic(auto, unfolding(crate::specs::Bus::read_slot))]
+    fn is_read_slot(self) -> bool
+        ensures { result ≡ read_slot self }
+    {
+        matches!(self, Event::Slot(true) | Event::OverdriveSlot(true))
+    }
+
     // The master holds the line low in a slot in which it sends 0.
     #[tactic(auto, unfolding(crate::specs::Bus::master_high))]
     fn holds_low(self) -> bool
@@ -133,7 +141,6 @@ fn hears(event: Event, state: LineState) -> bool
 // In an event a device leaves the line high if it does not hear it, or if it answers with a 1: in a slot it answers
 // with what it sends, and in a reset with its presence, a 0. In a regular slot most devices send a 1, so that this is
 // asked first, and of most devices nothing else.
-#[tactic(auto, unfolding(crate::specs::Bus::hears, crate::specs::Loops::answers_high, crate::specs::Loops::leaves_high))]
 fn leaves_high(event: Event, state: LineState) -> bool
     ensures { result ≡ leaves_high event state }
 {
@@ -148,7 +155,6 @@ fn leaves_high(event: Event, state: LineState) -> bool
 
 // The place of device i is found from its entry alone, so that the cost does not depend on i. A device that the image
 // does not have, or for whose entry or body it has no room, has an empty body and no kind.
-#[tactic(auto, using(std::proofs::lemmas::Bool::Decides::nat_tests), unfolding(crate::specs::Loops::place_in, image::specs::Image::entry_of))]
 pub fn place_of(image: &[u8], i: usize) -> Place
     ensures { result ≡ place_in image.now i }
 {
@@ -184,52 +190,36 @@ fn looks_on(high: bool, looked: usize, asked: usize) -> bool
 }
 
 // A scan is the level of an event, where `high` tells whether those that were asked leave the line high, together with
-// the number of devices that were looked at for it. They are counted only in a slot in which the master does not hold
-// the line low.
-#[tactic(auto, unfolding(crate::specs::Loops::scan_where, crate::specs::Loops::asked_of, crate::specs::Bus::is_slot, crate::specs::Bus::master_high, crate::specs::Bus::read_slot))]
+// the number of devices that were looked at for it. They are counted only in a slot in which the master sends 1.
+#[tactic(auto, unfolding(crate::specs::Loops::scan_where))]
 fn scan_of(event: Event, high: bool, looked: usize) -> Scan
     ensures { result ≡ scan_where event high looked }
 {
-    if event.is_slot() {
-        Scan {
-            level: !event.holds_low() & high,
-            looked: asked(event, looked),
-        }
-    } else {
-        Scan {
-            level: high,
-            looked: 0,
-        }
+    Scan {
+        level: !event.holds_low() & high,
+        looked: if event.is_read_slot() { looked } else { 0 },
     }
 }
 
 // This is what a reset leaves of device i, which hears it.
-#[tactic(auto, using(crate::proofs::Laws::inside_of), unfolding(crate::specs::Loops::body_in, crate::specs::Loops::image_with_body))]
+#[tactic(auto, using(crate::proofs::Laws::inside_of))]
 fn heard_reset(image: &mut [u8], i: usize, state: LineState, overdrive: bool) -> LineState
     ensures { (result ≡ reset_at overdrive)
         × (image.new ≡ image_with_body image.old (place_in image.old i)
         (body_after_reset_as_is state (body_in image.old i))) }
 {
-    let Place {
-        kind: _,
-        start,
-        end,
-    } = place_of(image, i);
+    let Place { start, end, .. } = place_of(image, i);
     state.reset_as_is(&mut image[start..end], overdrive)
 }
 
 // This is what a program pulse leaves of device i.
-#[tactic(auto, using(crate::proofs::Laws::inside_of), unfolding(crate::specs::Loops::body_in, crate::specs::Loops::image_with_body))]
+#[tactic(auto, using(crate::proofs::Laws::inside_of))]
 fn heard_pulse(image: &mut [u8], i: usize, state: LineState) -> LineState
     ensures { (result ≡ state_after_pulse_as_is state (body_in image.old i))
         × (image.new ≡ image_with_body image.old (place_in image.old i)
         (body_after_pulse_as_is state (body_in image.old i))) }
 {
-    let Place {
-        kind: _,
-        start,
-        end,
-    } = place_of(image, i);
+    let Place { start, end, .. } = place_of(image, i);
     state.pulse_as_is(&mut image[start..end])
 }
 
@@ -287,11 +277,7 @@ fn slot(image: &mut [u8], i: usize, state: LineState, overdrive: bool, level: bo
 fn read_heard_pulse(image: &[u8], i: usize, state: LineState) -> LineState
     ensures { result ≡ state_after_pulse_as_is state (body_in image.now i) }
 {
-    let Place {
-        kind: _,
-        start,
-        end,
-    } = place_of(image, i);
+    let Place { start, end, .. } = place_of(image, i);
     state.pulsed_as_is(&image[start..end])
 }
 
@@ -311,7 +297,6 @@ fn read_slot(image: &[u8], i: usize, state: LineState, overdrive: bool, level: b
 
 // This is what a reset or a program pulse leaves of device i, which hears it. No slot comes here, so that an event that
 // is not a reset is the pulse. The level has no part in it, and is 1 in the contract.
-#[tactic(auto, unfolding(crate::specs::Bus::is_slot, crate::specs::Loops::heard_state_as_is, crate::specs::Loops::heard_body_as_is, crate::specs::Loops::device_in, crate::specs::Loops::device_at_place, crate::specs::Loops::body_in))]
 fn turn(image: &mut [u8], i: usize, state: LineState, event: Event) -> LineState
     requires { is_slot event ≡ false }
     ensures { (result ≡ heard_state_as_is event true (device_in image.old i state))
@@ -327,7 +312,6 @@ fn turn(image: &mut [u8], i: usize, state: LineState, event: Event) -> LineState
 
 // This is device i's line state after a reset or a program pulse that it hears, for a search, which only reads the
 // bodies.
-#[tactic(auto, unfolding(crate::specs::Bus::is_slot, crate::specs::Loops::heard_state_as_is, crate::specs::Loops::heard_body_as_is, crate::specs::Loops::device_in, crate::specs::Loops::device_at_place, crate::specs::Loops::body_in))]
 fn read_turn(image: &[u8], i: usize, state: LineState, event: Event) -> LineState
     requires { is_slot event ≡ false }
     ensures { result ≡ heard_state_as_is event true (device_in image.now i state) }
@@ -426,7 +410,6 @@ fn lacks_room(image: &[u8], trace: &[u8], answers: usize, lines: usize) -> bool
 }
 
 // A run is refused for the first cause that applies: one of the image's, then those of the trace and of the room.
-#[tactic(auto, unfolding(image::specs::Refusal::number_of, image::specs::Refusal::refusal_number, image::specs::Refusal::image_refusal, image::specs::Refusal::image_causes, image::specs::Refusal::first_cause, crate::specs::Refusal::run_refusal, crate::specs::Refusal::run_causes))]
 pub fn check(image: &[u8], trace: &[u8], answers: usize, lines: usize) -> Result<(), Refusal>
     ensures { number_of result ≡ run_refusal image.now trace.now answers lines }
 {
@@ -452,6 +435,7 @@ pub fn check(image: &[u8], trace: &[u8], answers: usize, lines: usize) -> Result
 // are not tested for their range. The scan stops at the first device that pulls low, as nothing behind it changes the
 // level. A device that waits or does not hear the event is looked at like any other. Only the line states are read, and
 // nothing changes.
+#[tactic(auto, using(crate::proofs::Levels::scan_turn))]
 pub fn level(lines: &[LineState], n: usize, byte: u8) -> Scan
     ensures { result ≡ scan_on lines.now n byte }
 {
@@ -562,11 +546,11 @@ pub fn step(image: &mut [u8], lines: &mut [LineState], n: usize, byte: u8) -> Ev
         × (lines.new ≡ (step_on n byte (bus_state image.old lines.old)).lines) }
 {
     let served = served(lines, n);
-    let scan = level(lines, n, byte);
-    let copied = step_event(image, lines, served, byte, scan.level);
+    let Scan { level, looked } = level(lines, n, byte);
+    let copied = step_event(image, lines, served, byte, level);
     EventResult {
-        level: scan.level,
-        looked: scan.looked,
+        level,
+        looked,
         copied,
     }
 }

@@ -15,7 +15,7 @@ returns c =
     let ls = c.args.lines.now in
     let s = bus_state c.args.image.now ls in
     let served : c.served-served.result ≡ fewer_of n (length ls) = c.served-served.ensures in
-    let level : c.level-scan.result.level ≡ level_on ls n v = ap (λ (u : Scan). u.level) c.level-scan.ensures in
+    let level : c.level-level.result.level ≡ level_on ls n v = ap (λ (u : Scan). u.level) c.level-level.ensures in
     let copied : c.step_event-copied.result ≡ copied_on n v s =
     c.step_event-copied.ensures.0
     ∙ ap (λ (b : Bool). copied_up_to v b c.served-served.result s) level
@@ -24,7 +24,7 @@ returns c =
     c.step_event-copied.ensures.1
     ∙ ap (λ (b : Bool). turns_up_to v b c.served-served.result s) level
     ∙ ap (λ (m : ℕ). turns_up_to v (level_on ls n v) m s) served in (
-      ap (λ (u : Scan). event_result u c.step_event-copied.result) c.level-scan.ensures
+      ap (λ (u : Scan). event_result u c.step_event-copied.result) c.level-level.ensures
           ∙ ap (λ (m : ℕ). event_result (scan_on ls n v) m) copied,
       ap (λ (u : BusState). u.image) left,
       ap (λ (u : BusState). u.lines) left,
