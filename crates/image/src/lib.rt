@@ -95,7 +95,7 @@ fn edition(image: &[u8]) -> u8
 fn flat_at(image: &[u8], i: u8) -> bool
     ensures { result ≡ flat_at image.now i }
 {
-    (edition(image) == 2) & (second_at(image, i) == 1)
+    edition(image) == 2 && second_at(image, i) == 1
 }
 
 fn kind_at(image: &[u8], i: u8) -> Kind
@@ -109,81 +109,69 @@ fn offset_at(image: &[u8], i: u8) -> u16
 {
     let low = bits::byte_at(image, 2 + 4 * bits::wide(i) + 2);
     let high = bits::byte_at(image, 2 + 4 * bits::wide(i) + 3);
-    low as u16 + 256 * (high as u16)
+    u16::from_le_bytes([low, high])
 }
 
 // The entry of device i is decoded. The body is found from its offset alone, so that the cost does not depend on i.
+#[tactic(auto, unfolding(crate::specs::Image::entry_of))]
 pub fn entry_at(image: &[u8], i: u8) -> Entry
     ensures { result ≡ entry_of image.now i }
 {
-    let kind = kind_at(image, i);
-    let start = offset_at(image, i) as usize;
-    Entry { kind, start }
+    Entry {
+        kind: kind_at(image, i),
+        start: usize::from(offset_at(image, i)),
+    }
 }
 
 // This tells whether the second byte of an entry is none that the edition has for a device of this kind: edition 1 has
 // only 0, edition 2 has 0 and 1, and 1 only for a device with a battery, which a DS1982 is not.
+#[tactic(auto, unfolding(crate::specs::Refusal::battery_malformed))]
 fn is_battery_malformed(edition: u8, second: u8, kind: Kind) -> bool
     ensures { result ≡ battery_malformed edition second kind }
 {
     if edition == 1 {
-        return second != 0;
+        second != 0
+    } else {
+        1 < second || second == 1 && kind::is_eprom(kind)
     }
-    if 1 < second {
-        return true;
-    }
-    (second == 1) & kind::is_eprom(kind)
 }
 
+#[tactic(auto, unfolding(crate::specs::Refusal::entry_malformed))]
 fn is_entry_malformed(image: &[u8], i: u8) -> bool
     ensures { result ≡ entry_malformed image.now i }
 {
     let kind = kind_at(image, i);
-    if is_battery_malformed(edition(image), second_at(image, i), kind) {
-        return true;
-    }
-    kind::is_unknown(kind)
+    is_battery_malformed(edition(image), second_at(image, i), kind) || kind::is_unknown(kind)
 }
 
 fn has_malformed_entry(image: &[u8]) -> bool
     ensures { result ≡ some_below (count_of image.now) (λ i. entry_malformed image.now i) }
 {
-    let n = count(image);
-    let mut i: u8 = 0;
-    while i < n {
-        if is_entry_malformed(image, i) {
-            return true;
-        }
-        i += 1;
-    }
-    false
+    (0..count(image)).any(|i| is_entry_malformed(image, i))
 }
 
 // An image is of edition 1 or 2.
+#[tactic(auto, unfolding(crate::specs::Refusal::edition_known))]
 fn is_edition_known(edition: u8) -> bool
     ensures { result ≡ edition_known edition }
 {
-    (edition == 1) | (edition == 2)
+    matches!(edition, 1 | 2)
 }
 
 // Cause 1 is an image too short for its entries, over 64 devices, another edition than 1 or 2, or a malformed entry.
+#[tactic(auto, unfolding(crate::specs::Refusal::image_malformed))]
 fn is_malformed(image: &[u8]) -> bool
     ensures { result ≡ image_malformed image.now }
 {
     let n = count(image);
-    if image.len() < 2 + 4 * bits::wide(n) {
-        return true;
-    }
-    if 64 < n {
-        return true;
-    }
-    if is_edition_known(edition(image)) {
-        return has_malformed_entry(image);
-    }
-    true
+    image.len() < 2 + 4 * bits::wide(n)
+        || 64 < n
+        || !is_edition_known(edition(image))
+        || has_malformed_entry(image)
 }
 
 // Cause 2 is an image that is too long.
+#[tactic(auto, unfolding(crate::specs::Refusal::image_too_long))]
 fn is_too_long(image: &[u8]) -> bool
     ensures { result ≡ image_too_long image.now }
 {
@@ -196,92 +184,58 @@ fn is_misplaced(image: &[u8]) -> bool
 {
     let n = count(image);
     let mut at = 2 + 4 * bits::wide(n);
-    let mut i: u8 = 0;
-    while i < n {
-        if offset_at(image, i) as usize != at {
+    for i in 0..n {
+        if usize::from(offset_at(image, i)) != at {
             return true;
         }
         at += kind::body_size(kind_at(image, i));
-        i += 1;
     }
     image.len() != at
 }
 
+#[tactic(auto, using(crate::proofs::Laws::short_code), unfolding(crate::specs::Refusal::code_refused))]
 fn is_code_refused(image: &[u8], i: u8) -> bool
     ensures { result ≡ code_refused image.now i }
 {
-    let start = offset_at(image, i) as usize;
+    let start = usize::from(offset_at(image, i));
     let end = start + kind::CODE_LENGTH;
     if image.len() < end {
         return true;
     }
-    if bits::registration_check(&image[start..end]) {
-        return image[start] != family_at(image, i);
-    }
-    true
+    !bits::registration_check(&image[start..end]) || image[start] != family_at(image, i)
 }
 
 // Cause 3 is a code with a wrong CRC, or with another family than its entry.
 fn is_miscoded(image: &[u8]) -> bool
     ensures { result ≡ some_code_refused image.now }
 {
-    let n = count(image);
-    let mut i: u8 = 0;
-    while i < n {
-        if is_code_refused(image, i) {
-            return true;
-        }
-        i += 1;
-    }
-    false
+    (0..count(image)).any(|i| is_code_refused(image, i))
 }
 
 fn same_code(image: &[u8], i: u8, j: u8) -> bool
     ensures { result ≡ equal_bytes 8 (code_at image.now i) (code_at image.now j) }
 {
-    let a = offset_at(image, i) as usize;
-    let b = offset_at(image, j) as usize;
-    let mut k = 0;
-    while k < 8 {
-        if bits::byte_at(image, a + k) != bits::byte_at(image, b + k) {
-            return false;
-        }
-        k += 1;
-    }
-    true
+    let a = usize::from(offset_at(image, i));
+    let b = usize::from(offset_at(image, j));
+    (0..kind::CODE_LENGTH).all(|k| bits::byte_at(image, a + k) == bits::byte_at(image, b + k))
 }
 
 // This tells whether the code of device j is that of a device before it, next to it or not.
 fn is_repeated(image: &[u8], j: u8) -> bool
     ensures { result ≡ code_repeated image.now j }
 {
-    let mut i: u8 = 0;
-    while i < j {
-        if same_code(image, i, j) {
-            return true;
-        }
-        i += 1;
-    }
-    false
+    (0..j).any(|i| same_code(image, i, j))
 }
 
 // Cause 4 is two equal codes.
 fn is_doubled(image: &[u8]) -> bool
     ensures { result ≡ some_code_repeated image.now }
 {
-    let n = count(image);
-    let mut j: u8 = 0;
-    while j < n {
-        if is_repeated(image, j) {
-            return true;
-        }
-        j += 1;
-    }
-    false
+    (0..count(image)).any(|j| is_repeated(image, j))
 }
 
 // An image is refused for the first cause that applies.
-#[tactic(auto, unfolding(crate::specs::Refusal::number_of, crate::specs::Refusal::refusal_number, crate::specs::Refusal::image_refusal, crate::specs::Refusal::image_causes, crate::specs::Refusal::first_cause,))]
+#[tactic(auto, unfolding(crate::specs::Refusal::number_of, crate::specs::Refusal::refusal_number, crate::specs::Refusal::image_refusal, crate::specs::Refusal::image_causes, crate::specs::Refusal::first_cause))]
 pub fn check(image: &[u8]) -> Result<(), Refusal>
     ensures { number_of result ≡ image_refusal image.now }
 {
