@@ -60,7 +60,7 @@ unfolding search_refusal search_causes image_causes image_refusal first_cause
 room-decides image codes trace lines h = first-none (image_causes image) (cause 7 (no_search_room image codes trace lines) ∷ []) (lit< tt, (lit< tt, (lit< tt, (lit< tt, (lit< tt, tt))))) h
 
 -- of one that is
-some_number : (e : Refusal) → refusal_number e ≡ 0 → ⊥
+pub some_number : (e : Refusal) → refusal_number e ≡ 0 → ⊥
 unfolding refusal_number
 some_number MalformedImage h = absurd (omega arith)
 some_number MisplacedBody h = absurd (omega arith)
