@@ -33,49 +33,38 @@ pub struct Driven {
 }
 
 // A master sends one event more than it is given levels, up to the most events of a search.
+#[tactic(auto, unfolding(crate::specs::Drive::drive_trace_room))]
 fn trace_room(levels: usize) -> usize
     ensures { result ≡ drive_trace_room levels }
 {
-    if levels < MOST_EVENTS {
-        levels + 1
-    } else {
-        MOST_EVENTS
-    }
+    levels.saturating_add(1).min(MOST_EVENTS)
 }
 
 // A master completes at most one code for each pass that the levels are enough for.
+#[tactic(auto, unfolding(crate::specs::Drive::drive_code_room))]
 fn code_room(levels: usize) -> usize
     ensures { result ≡ drive_code_room levels }
 {
-    let passes = levels / PASS_EVENTS;
-    let most = MOST_PASSES as usize;
-    if passes < most {
-        CODE_BYTES * passes
-    } else {
-        CODE_BYTES * most
-    }
+    CODE_BYTES * (levels / PASS_EVENTS).min(usize::from(MOST_PASSES))
 }
 
 // This stores a code at its place among the codes.
 fn put_code(codes: &mut [u8], place: u8, code: [u8; 8])
     ensures { codes.new ≡ sets codes.old (code_bytes * place) code }
 {
-    let at = CODE_BYTES * (place as usize);
-    let mut i = 0;
-    while i < CODE_BYTES {
-        bits::put_byte(codes, at + i, code[i]);
-        i += 1;
+    let at = CODE_BYTES * usize::from(place);
+    for (i, byte) in code.iter().enumerate() {
+        bits::put_byte(codes, at + i, *byte);
     }
 }
 
 // This stores the code that a step completed, if it completed one; `before` codes were completed before the step.
+#[tactic(auto, unfolding(crate::specs::Drive::code_completed))]
 pub fn keep_code(codes: &mut [u8], before: u8, next: Master)
     ensures { codes.new ≡ sets codes.old (code_bytes * before) (code_completed before next) }
 {
-    let passes = next.passes;
-    if before < passes {
-        let code = next.previous;
-        put_code(codes, before, code);
+    if before < next.passes {
+        put_code(codes, before, next.previous);
     }
 }
 
@@ -97,34 +86,30 @@ fn step_levels(levels: &[u8], trace: &mut [u8], codes: &mut [u8]) -> Driven
         × (codes.new ≡ sets codes.old 0 (codes_from started_master levels.now)) }
 {
     let mut step = Master::fresh().step(0);
-    let mut i = 0;
+    let mut sent = 0;
     loop {
-        let answer = step.answer;
         let master = step.next;
-        let completed = master.passes;
-        match answer {
+        let event = match step.answer {
+            Answer::Event(event) => event,
             Answer::End(end) => {
                 return Driven {
                     outcome: Outcome::Ended(end),
-                    events: i,
-                    codes: completed as usize,
+                    events: sent,
+                    codes: usize::from(master.passes),
                 };
             }
-            Answer::Event(event) => {
-                bits::put_byte(trace, i, event);
-                if levels.len() <= i {
-                    return Driven {
-                        outcome: Outcome::Unfinished,
-                        events: i + 1,
-                        codes: completed as usize,
-                    };
-                }
-                step = master.step(levels[i]);
-                let next = step.next;
-                keep_code(codes, completed, next);
-                i += 1;
-            }
-        }
+        };
+        bits::put_byte(trace, sent, event);
+        let Some(level) = levels.get(sent) else {
+            return Driven {
+                outcome: Outcome::Unfinished,
+                events: sent + 1,
+                codes: usize::from(master.passes),
+            };
+        };
+        step = master.step(*level);
+        keep_code(codes, master.passes, step.next);
+        sent += 1;
     }
 }
 
