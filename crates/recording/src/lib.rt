@@ -3,8 +3,8 @@
 // next.
 #![tactic(auto)]
 
-ghost use Rattle.std.specs.Prelude.{◌≡◌, length};
-ghost use Rattle.recording.specs.Recorded.{agrees_at, next_at};
+ghost use Rattle.std.specs.Prelude.{◌≡◌, length, get_or};
+ghost use Rattle.recording.specs.Recorded.{agrees_at, next_at, level_at};
 
 #[derive(Clone, Copy)]
 pub struct Recording<'a> {
@@ -24,6 +24,21 @@ impl<'a> Recording<'a> {
             answers,
             at: 0,
         }
+    }
+
+    // This is the byte of event k; past the end of the trace it is 0.
+    pub fn event(self, k: usize) -> u8
+        ensures { result ≡ get_or self.entry.trace.now k 0 }
+    {
+        bits::byte_at(self.trace, k)
+    }
+
+    // The recorded answer of event k counts as the level of the line. Where it is not, rule A is broken, and no other
+    // rule counts.
+    pub fn level(self, k: usize) -> bool
+        ensures { result ≡ level_at self.entry.answers.now k }
+    {
+        bits::byte_at(self.answers, k) == 1
     }
 
     // This tells whether the answer that was recorded for the event at the reader's place is this level.
