@@ -1,5 +1,5 @@
 use Rattle.judge.specs.Loops.{read_shown}
-use Rattle.judge.proofs.read_shown.Goals as goal
+use Rattle.judge.proofs.Followed.read_shown.Goals as goal
 
 pub returns : goal.returns
 unfolding read_shown

@@ -1,5 +1,5 @@
 use Rattle.judge.specs.Loops.{part_by}
-use Rattle.judge.proofs.part_by.Goals as goal
+use Rattle.judge.proofs.Followed.part_by.Goals as goal
 
 pub returns-in-Unmarked : goal.returns-in-Unmarked
 unfolding part_by
