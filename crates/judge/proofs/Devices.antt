@@ -31,12 +31,13 @@ use Rattle.bus.specs.Refusal.{no_first_reset}
 use Rattle.bus.proofs.Laws.{first-event}
 use Rattle.bus.proofs.Ranges.{InRange, AllIn, run_in, as-it-is-state}
 use Rattle.bus.proofs.Runs.{run-append, Same, AllSame, none, also, run-same, same_length}
+use Rattle.recording.specs.Recorded.{level_at}
 use Rattle.judge.specs.declared.Doing.{Doing}
 use Rattle.judge.specs.declared.Doing.TheVariants.{Command, Address, Pattern, Other}
 use Rattle.judge.specs.declared.Seen.{Seen}
 use Rattle.judge.specs.Rules.{Moment, is_last, is_command, is_memory_command, completes, is_made, accepts_copy, wanted_bits, shown_since_write}
 use Rattle.judge.specs.Rules.{device_at, devices_at, moment_of, moment_at, moments_of}
-use Rattle.judge.specs.Loops.{level_at, slot_at, sram_doing, memory_doing, doing_of, pattern_accepted, seen_so, seen_by, careful_at}
+use Rattle.judge.specs.Loops.{slot_at, sram_doing, memory_doing, doing_of, pattern_accepted, seen_so, seen_by, careful_at}
 use Rattle.judge.proofs.Moments.{slot-heard, up_from, up-append, WayTo, careful-is}
 
 -- ---- what is seen, by the stage

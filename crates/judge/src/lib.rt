@@ -16,19 +16,20 @@ ghost use Rattle.bus.specs.Loops.{place_in, next_state_as_is};
 ghost use Rattle.judge.specs.Refusal.{judge_refusal};
 ghost use Rattle.judge.specs.declared.Verdict.TheVariants.{Accepted, Refused};
 ghost use Rattle.judge.specs.Judge.{rule_number, refusal_of, rule_of, broken_at, JudgeLeaves, judge_of};
-ghost use Rattle.judge.specs.Loops.{level_at, sram_doing, memory_doing, doing_of, slot_at, passed_at, after_slot_at};
-ghost use Rattle.judge.specs.Loops.{line_next, mark_by, mark_of, wanted_bytes, wanted_bit, reads_on, bits_in};
+ghost use Rattle.judge.specs.Loops.{doing_of, slot_at, passed_at, after_slot_at};
+ghost use Rattle.judge.specs.Loops.{line_next, mark_by, mark_of, wanted_bytes, wanted_bit, goes_on_at, bits_in};
 ghost use Rattle.judge.specs.Loops.{shown_from};
 ghost use Rattle.judge.specs.Loops.{read_shown, part_so, part_by, part_at, part_over, overdrive_before, begins_part};
-ghost use Rattle.judge.specs.Loops.{back_by, back_over, back_at, looks_back, careful_by, careful_at};
+ghost use Rattle.judge.specs.Loops.{back_by, back_at, careful_at};
 ghost use Rattle.judge.specs.Loops.{pattern_accepted, careless_at, seen_with, at_memory, seen_up_to, nothing_seen};
-ghost use Rattle.judge.specs.Loops.{verdict_here, verdict_kept, verdict_next, laid_up_to, judge_state};
+ghost use Rattle.judge.specs.Loops.{verdict_here, verdict_kept, verdict_next, judge_state};
 ghost use Rattle.judge.specs.Loops.{judge_events_up_to, still_looked_at};
 
 use device::LineState;
 use image::ACCEPTED;
 use kind::Kind;
 use line::{MemoryStage, SramStage, Stage};
+use recording::Recording;
 
 // Document 02's rules A, B and C: the answers are the bench's; no write or copy command goes to more than one device;
 // each copy was read back before.
@@ -96,6 +97,14 @@ struct Seen {
     careless: bool,
 }
 
+// A device that is followed over a recording by value: it has this kind, and this body at the copy that is looked at.
+#[derive(Clone, Copy)]
+struct Followed<'a> {
+    recording: Recording<'a>,
+    kind: Kind,
+    body: &'a [u8],
+}
+
 const READ_SCRATCHPAD: u8 = 0xAA;
 
 const WRITE_SCRATCHPAD: u8 = 0x0F;
@@ -112,46 +121,16 @@ const REGISTER_BITS: usize = 24;
 
 // ---- one device at one event
 
-// A recorded answer counts as the level of the line. Where it is not, rule A is broken, and no other rule counts.
-fn level_at(answers: &[u8], k: usize) -> bool
-    ensures { result ≡ level_at answers.now k }
-{
-    bits::byte_at(answers, k) == 1
-}
-
-fn sram_doing(s: SramStage) -> Doing
-    ensures { result ≡ sram_doing s }
-{
-    match s {
-        SramStage::WriteLow => Doing::Other,
-        SramStage::WriteHigh { low: _ } => Doing::Address,
-        SramStage::WriteData { offset: _, bit: _ } => Doing::Other,
-        SramStage::ReadRegister { at: _ } => Doing::Other,
-        SramStage::ReadScratchpad { offset: _ } => Doing::Other,
-        SramStage::CopyPattern { at, same } => Doing::Pattern { at, same },
-        SramStage::Copied => Doing::Other,
-        SramStage::ReadLow => Doing::Other,
-        SramStage::ReadHigh { low: _ } => Doing::Other,
-        SramStage::ReadMemory { low: _, high: _ } => Doing::Other,
-    }
-}
-
-fn memory_doing(m: MemoryStage) -> Doing
-    ensures { result ≡ memory_doing m }
-{
-    match m {
-        MemoryStage::Command => Doing::Command,
-        MemoryStage::Sram(s) => sram_doing(s),
-        MemoryStage::Eprom(_) => Doing::Other,
-    }
-}
-
 fn doing_of(stage: Stage) -> Doing
     ensures { result ≡ doing_of stage }
 {
     match stage {
-        Stage::Rom(_) => Doing::Other,
-        Stage::Memory(m) => memory_doing(m),
+        Stage::Memory(MemoryStage::Command) => Doing::Command,
+        Stage::Memory(MemoryStage::Sram(SramStage::WriteHigh { .. })) => Doing::Address,
+        Stage::Memory(MemoryStage::Sram(SramStage::CopyPattern { at, same })) => {
+            Doing::Pattern { at, same }
+        }
+        _ => Doing::Other,
     }
 }
 
@@ -162,12 +141,8 @@ fn is_slot_at(byte: u8, overdrive: bool) -> bool
     ensures { result ≡ slot_at byte overdrive }
 {
     match byte {
-        0 => !overdrive,
-        1 => !overdrive,
-        2 => false,
-        4 => overdrive,
-        5 => overdrive,
-        6 => false,
+        0 | 1 => !overdrive,
+        4 | 5 => overdrive,
         _ => false,
     }
 }
@@ -176,15 +151,7 @@ fn is_slot_at(byte: u8, overdrive: bool) -> bool
 fn is_passed_at(byte: u8, overdrive: bool) -> bool
     ensures { result ≡ passed_at byte overdrive }
 {
-    match byte {
-        0 => false,
-        1 => false,
-        2 => false,
-        4 => !overdrive,
-        5 => !overdrive,
-        6 => !overdrive,
-        _ => false,
-    }
+    matches!(byte, 4 | 5 | 6) & !overdrive
 }
 
 // A slot at the device's own speed is one step of it. Of the others a regular one makes it wait, and one at overdrive
@@ -215,34 +182,12 @@ fn after_event(state: LineState, kind: Kind, body: &[u8], byte: u8, level: bool)
     ensures { result ≡ next_state_as_is (event_of byte) level (device_with kind body.now state) }
 {
     match byte {
-        0 => after_slot(state, kind, body, false, level),
-        1 => after_slot(state, kind, body, false, level),
-        2 => LineState::at_reset(false),
-        4 => after_slot(state, kind, body, true, level),
-        5 => after_slot(state, kind, body, true, level),
-        6 => after_overdrive_reset(state),
+        0 | 1 => after_slot(state, kind, body, false, level),
+        RESET => LineState::at_reset(false),
+        4 | 5 => after_slot(state, kind, body, true, level),
+        OVERDRIVE_RESET => after_overdrive_reset(state),
         _ => state.pulsed_as_is(body),
     }
-}
-
-// This is the line state after event k of a recording.
-fn line_next(
-    trace: &[u8],
-    answers: &[u8],
-    kind: Kind,
-    body: &[u8],
-    k: usize,
-    state: LineState,
-) -> LineState
-    ensures { result ≡ line_next trace.now answers.now kind body.now k state }
-{
-    after_event(
-        state,
-        kind,
-        body,
-        bits::byte_at(trace, k),
-        level_at(answers, k),
-    )
 }
 
 // The event is marked if it is the last slot of a read's command or of a write's address; `value` is the byte that was
@@ -251,27 +196,18 @@ fn mark_by(doing: Doing, last: bool, value: u8) -> Mark
     ensures { result ≡ mark_by doing last value }
 {
     match doing {
-        Doing::Command => {
-            if last & (value == READ_SCRATCHPAD) {
-                Mark::Reads
-            } else {
-                Mark::Unmarked
-            }
-        }
-        Doing::Address => { if last { Mark::Wrote } else { Mark::Unmarked } }
-        Doing::Pattern { at: _, same: _ } => Mark::Unmarked,
-        Doing::Other => Mark::Unmarked,
+        Doing::Command if last & (value == READ_SCRATCHPAD) => Mark::Reads,
+        Doing::Address if last => Mark::Wrote,
+        _ => Mark::Unmarked,
     }
 }
 
 fn mark_of(state: LineState, byte: u8, level: bool) -> Mark
     ensures { result ≡ mark_of state byte level }
 {
-    let transfer = state.transfer;
-    let stage = transfer.stage;
     let last = is_slot_at(byte, state.overdrive) & !state.goes_on();
-    let value = bits::shift_in(transfer.register, level);
-    mark_by(doing_of(stage), last, value)
+    let value = bits::shift_in(state.transfer.register, level);
+    mark_by(doing_of(state.transfer.stage), last, value)
 }
 
 // ---- what a read showed
@@ -287,9 +223,8 @@ fn first_offset(body: &[u8]) -> u8
 fn wanted_bytes(body: &[u8]) -> u8
     ensures { (result ≡ wanted_bytes body.now) × (result ≤ 32) }
 {
-    let first = first_offset(body);
     let last = bits::byte_at(body, kind::ES) % kind::SCRATCHPAD_LENGTH;
-    if last < first { 0 } else { last + 1 - first }
+    (last + 1).saturating_sub(first_offset(body))
 }
 
 // A read is to show the registers, then the bytes from T4:T0 through the ending offset. This is bit `at` of them, by
@@ -305,133 +240,14 @@ fn wanted_bit(body: &[u8], at: usize) -> bool
     bits::bit_at(body, place + (at - REGISTER_BITS))
 }
 
-// A read of a device, which is at overdrive or not, goes on in event k if this is a slot that it hears and that shows
-// bit `at`, or if it passes over it. Event `end` is past the part of the trace in which the read lies.
-fn reads_on(
-    trace: &[u8],
-    answers: &[u8],
-    body: &[u8],
-    overdrive: bool,
-    end: usize,
-    k: usize,
-    at: usize,
-) -> bool
-    requires { at < 1024 }
-    ensures { result
-        ≡ reads_on trace.now answers.now body.now overdrive end k at }
-{
-    let byte = bits::byte_at(trace, k);
-    if end <= k {
-        return false;
-    }
-    if is_slot_at(byte, overdrive) {
-        return level_at(answers, k) == wanted_bit(body, at);
-    }
-    is_passed_at(byte, overdrive)
-}
-
 // A slot that the device hears shows one bit, and an event that it passes over shows none.
 fn bits_in(byte: u8, overdrive: bool) -> usize
     ensures { (result ≡ bits_in byte overdrive) × (result ≤ 1) }
 {
-    if is_slot_at(byte, overdrive) { 1 } else { 0 }
+    usize::from(is_slot_at(byte, overdrive))
 }
 
-// This tells whether the recorded answers from event k on, before event `end`, show as many bits as are due.
-fn bits_shown(
-    trace: &[u8],
-    answers: &[u8],
-    body: &[u8],
-    overdrive: bool,
-    end: usize,
-    k: usize,
-    count: usize,
-) -> bool
-    requires { count ≤ 1024 }
-    ensures { result ≡ shown_from trace.now answers.now body.now overdrive 0 count k
-        (end - k) }
-{
-    let mut event = k;
-    let mut at: usize = 0;
-    let mut due = count;
-    while 0 < due {
-        if !reads_on(trace, answers, body, overdrive, end, event, at) {
-            return false;
-        }
-        let shown = bits_in(bits::byte_at(trace, event), overdrive);
-        at += shown;
-        due -= shown;
-        event += 1;
-    }
-    true
-}
-
-// A read whose command completed in the event before k showed all that is to be copied.
-fn read_shown(
-    trace: &[u8],
-    answers: &[u8],
-    body: &[u8],
-    overdrive: bool,
-    end: usize,
-    k: usize,
-) -> bool
-    ensures { result
-        ≡ read_shown trace.now answers.now body.now overdrive end k }
-{
-    let count = REGISTER_BITS + 8 * bits::wide(wanted_bytes(body));
-    bits_shown(trace, answers, body, overdrive, end, k, count)
-}
-
-// ---- the part of a trace from a reset that the device heard to the next
-
-// A write leaves nothing of what was shown before it.
-fn part_by(
-    trace: &[u8],
-    answers: &[u8],
-    body: &[u8],
-    overdrive: bool,
-    end: usize,
-    k: usize,
-    part: Part,
-    mark: Mark,
-) -> Part
-    requires { k < 18446744073709551615 }
-    ensures { result
-        ≡ part_by trace.now answers.now body.now overdrive end k part mark }
-{
-    match mark {
-        Mark::Unmarked => part,
-        Mark::Wrote => Part {
-            wrote: true,
-            shown: false,
-        },
-        Mark::Reads => {
-            let here = read_shown(trace, answers, body, overdrive, end, k + 1);
-            Part {
-                wrote: part.wrote,
-                shown: part.shown | here,
-            }
-        }
-    }
-}
-
-// Event k, which finds the device in a line state, leaves this part.
-fn part_at(
-    trace: &[u8],
-    answers: &[u8],
-    body: &[u8],
-    end: usize,
-    k: usize,
-    state: LineState,
-    part: Part,
-) -> Part
-    requires { k < 18446744073709551615 }
-    ensures { result
-        ≡ part_at trace.now answers.now body.now end k state part }
-{
-    let mark = mark_of(state, bits::byte_at(trace, k), level_at(answers, k));
-    part_by(trace, answers, body, state.overdrive, end, k, part, mark)
-}
+// ---- the walk back from a copy
 
 fn empty_part() -> Part
     ensures { result ≡ part_so false false }
@@ -441,34 +257,6 @@ fn empty_part() -> Part
         shown: false,
     }
 }
-
-// These are the writes and reads of a device from event `from` up to event `end`. The reset before them left the device
-// at overdrive or at regular speed. It is followed by the recorded answers; its body may be that of a later time, as
-// nothing that is marked depends on more than the code.
-fn part_in(
-    trace: &[u8],
-    answers: &[u8],
-    kind: Kind,
-    body: &[u8],
-    overdrive: bool,
-    from: usize,
-    end: usize,
-) -> Part
-    ensures { result ≡ part_over trace.now answers.now kind body.now end
-        (reset_at overdrive) (part_so false false) from (end - from) }
-{
-    let mut state = LineState::at_reset(overdrive);
-    let mut part = empty_part();
-    let mut k = from;
-    while k < end {
-        part = part_at(trace, answers, body, end, k, state, part);
-        state = line_next(trace, answers, kind, body, k, state);
-        k += 1;
-    }
-    part
-}
-
-// ---- the walk back from a copy
 
 // With `overdrive` the device is known to be at overdrive after the event of this byte; this tells whether it is known
 // to have been so before. An event that a device at regular speed passes over leaves it at regular speed, so that one
@@ -500,71 +288,147 @@ fn back_by(j: usize, back: Back, overdrive: bool, part: Part) -> Back
     }
 }
 
-// The walk goes back over an event that begins no part.
-fn back_over(back: Back, overdrive: bool) -> Back
-    ensures { result ≡ back_over back overdrive }
-{
-    Back {
-        end: back.end,
-        shown: back.shown,
-        decided: back.decided,
-        overdrive,
+// ---- one device, followed over a recording
+
+impl<'a> Followed<'a> {
+    // This is the line state after event k.
+    fn line_next(self, k: usize, state: LineState) -> LineState
+        ensures { result ≡ line_next self.entry.recording.trace.now
+            self.entry.recording.answers.now self.entry.kind self.entry.body.now k state }
+    {
+        let byte = self.recording.event(k);
+        after_event(state, self.kind, self.body, byte, self.recording.level(k))
     }
-}
 
-// The walk back looks at event j. A part begins at the speed of its reset.
-fn back_at(trace: &[u8], answers: &[u8], kind: Kind, body: &[u8], j: usize, back: Back) -> Back
-    requires { j < 18446744073709551615 }
-    ensures { result ≡ back_at trace.now answers.now kind body.now j back }
-{
-    let byte = bits::byte_at(trace, j);
-    let after = back.overdrive;
-    let before = is_overdrive_before(byte, after);
-    if begins_part(byte, after) {
-        let overdrive = byte == OVERDRIVE_RESET;
-        let part = part_in(trace, answers, kind, body, overdrive, j + 1, back.end);
-        back_by(j, back, before, part)
-    } else {
-        back_over(back, before)
+    // A read of the device, which is at overdrive or not, goes on in event k if this is a slot that it hears and that
+    // shows bit `at`, or if it passes over it.
+    fn reads_on(self, overdrive: bool, k: usize, at: usize) -> bool
+        requires { at < 1024 }
+        ensures { result ≡ goes_on_at self.entry.recording.trace.now
+            self.entry.recording.answers.now self.entry.body.now overdrive k at }
+    {
+        let byte = self.recording.event(k);
+        if is_slot_at(byte, overdrive) {
+            return self.recording.level(k) == wanted_bit(self.body, at);
+        }
+        is_passed_at(byte, overdrive)
     }
-}
 
-fn looks_back(j: usize, back: Back) -> bool
-    ensures { result ≡ looks_back j back }
-{
-    (0 < j) & !back.decided
-}
-
-fn is_careful_by(back: Back) -> bool
-    ensures { result ≡ careful_by back }
-{
-    back.decided & back.shown
-}
-
-// A copy that a device accepts in event k, at overdrive or at regular speed, was read back: between its last write and
-// the copy a read showed all that is copied. Any one read is enough, so that the walk goes on to the last write.
-fn is_careful(
-    trace: &[u8],
-    answers: &[u8],
-    kind: Kind,
-    body: &[u8],
-    overdrive: bool,
-    k: usize,
-) -> bool
-    ensures { result ≡ careful_at trace.now answers.now kind body.now overdrive k }
-{
-    let mut back = Back {
-        end: k,
-        shown: false,
-        decided: false,
-        overdrive,
-    };
-    let mut j = k;
-    while looks_back(j, back) {
-        j -= 1;
-        back = back_at(trace, answers, kind, body, j, back);
+    // This tells whether the recorded answers from event k on, before event `end`, show as many bits as are due.
+    fn bits_shown(self, overdrive: bool, end: usize, k: usize, count: usize) -> bool
+        requires { count ≤ 1024 }
+        ensures { result ≡ shown_from self.entry.recording.trace.now
+            self.entry.recording.answers.now self.entry.body.now overdrive 0 count k (end - k) }
+    {
+        let mut at = 0;
+        for event in k..end {
+            if at == count {
+                return true;
+            }
+            if !self.reads_on(overdrive, event, at) {
+                return false;
+            }
+            at += bits_in(self.recording.event(event), overdrive);
+        }
+        at == count
     }
-    is_careful_by(back)
+
+    // A read whose command completed in the event before k showed all that is to be copied.
+    fn read_shown(self, overdrive: bool, end: usize, k: usize) -> bool
+        ensures { result ≡ read_shown self.entry.recording.trace.now
+            self.entry.recording.answers.now self.entry.body.now overdrive end k }
+    {
+        let count = REGISTER_BITS + 8 * bits::wide(wanted_bytes(self.body));
+        self.bits_shown(overdrive, end, k, count)
+    }
+
+    // A write leaves nothing of what was shown before it.
+    fn part_by(self, overdrive: bool, end: usize, k: usize, part: Part, mark: Mark) -> Part
+        requires { k < 18446744073709551615 }
+        ensures { result ≡ part_by self.entry.recording.trace.now
+            self.entry.recording.answers.now self.entry.body.now overdrive end k part mark }
+    {
+        match mark {
+            Mark::Unmarked => part,
+            Mark::Wrote => Part {
+                wrote: true,
+                shown: false,
+            },
+            Mark::Reads => {
+                let here = self.read_shown(overdrive, end, k + 1);
+                Part {
+                    shown: part.shown | here,
+                    ..part
+                }
+            }
+        }
+    }
+
+    // Event k, which finds the device in a line state, leaves this part.
+    fn part_at(self, end: usize, k: usize, state: LineState, part: Part) -> Part
+        requires { k < 18446744073709551615 }
+        ensures { result ≡ part_at self.entry.recording.trace.now
+            self.entry.recording.answers.now self.entry.body.now end k state part }
+    {
+        let mark = mark_of(state, self.recording.event(k), self.recording.level(k));
+        self.part_by(state.overdrive, end, k, part, mark)
+    }
+
+    // These are the writes and reads of the device from event `from` up to event `end`. The reset before them left the
+    // device at overdrive or at regular speed. Nothing that is marked depends on more of the body than the code.
+    fn part_in(self, overdrive: bool, from: usize, end: usize) -> Part
+        ensures { result ≡ part_over self.entry.recording.trace.now
+            self.entry.recording.answers.now self.entry.kind self.entry.body.now end
+            (reset_at overdrive) (part_so false false) from (end - from) }
+    {
+        let mut state = LineState::at_reset(overdrive);
+        let mut part = empty_part();
+        for k in from..end {
+            part = self.part_at(end, k, state, part);
+            state = self.line_next(k, state);
+        }
+        part
+    }
+
+    // The walk back looks at event j. A part begins at the speed of its reset.
+    fn back_at(self, j: usize, back: Back) -> Back
+        requires { j < 18446744073709551615 }
+        ensures { result ≡ back_at self.entry.recording.trace.now
+            self.entry.recording.answers.now self.entry.kind self.entry.body.now j back }
+    {
+        let byte = self.recording.event(j);
+        let overdrive = is_overdrive_before(byte, back.overdrive);
+        if begins_part(byte, back.overdrive) {
+            let part = self.part_in(byte == OVERDRIVE_RESET, j + 1, back.end);
+            back_by(j, back, overdrive, part)
+        } else {
+            Back { overdrive, ..back }
+        }
+    }
+
+    // A copy that the device accepts in the event at the reader's place, at overdrive or at regular speed, was read
+    // back: between its last write and the copy a read showed all that is copied. Any one read is enough, so that the
+    // walk goes on to the last write.
+    fn is_careful(self, overdrive: bool) -> bool
+        ensures { result ≡ careful_at self.entry.recording.trace.now
+            self.entry.recording.answers.now self.entry.kind self.entry.body.now overdrive
+            self.entry.recording.at }
+    {
+        let end = self.recording.at;
+        let mut back = Back {
+            end,
+            shown: false,
+            decided: false,
+            overdrive,
+        };
+        for j in (0..end).rev() {
+            back = self.back_at(j, back);
+            if back.decided {
+                return back.shown;
+            }
+        }
+        false
+    }
 }
 
 // ---- one event on all devices
@@ -579,75 +443,60 @@ fn is_accepted(at: u8, same: bool, value: u8, body: &[u8]) -> bool
     same & (bits::byte_at(body, kind::TA1 + bits::wide(at)) == value)
 }
 
-// Device i, which is at overdrive or not, accepts a copy in event k that was not read back.
+// Device i, which is at overdrive or not, accepts a copy in the event at the reader's place that was not read back.
 fn is_careless(
-    trace: &[u8],
-    answers: &[u8],
+    recording: Recording,
     image: &[u8],
     i: usize,
     overdrive: bool,
-    k: usize,
     at: u8,
     same: bool,
     value: u8,
 ) -> bool
-    ensures { result ≡ careless_at trace.now answers.now image.now
-        (place_in image.now i) overdrive k at same value }
+    ensures { result ≡ careless_at recording.entry.trace.now recording.entry.answers.now image.now
+        (place_in image.now i) overdrive recording.entry.at at same value }
 {
     let place = bus::place_of(image, i);
-    let kind = place.kind;
-    let start = place.start;
-    let end = place.end;
-    if is_accepted(at, same, value, &image[start..end]) {
-        return !is_careful(trace, answers, kind, &image[start..end], overdrive, k);
-    }
-    false
+    let body = &image[place.start..place.end];
+    let followed = Followed {
+        recording,
+        kind: place.kind,
+        body,
+    };
+    is_accepted(at, same, value, body) && !followed.is_careful(overdrive)
 }
 
 fn is_write_or_copy(value: u8) -> bool
     ensures { result ≡ (eqb value 0x0F || eqb value 0x55) }
 {
-    (value == WRITE_SCRATCHPAD) | (value == COPY_SCRATCHPAD)
+    matches!(value, WRITE_SCRATCHPAD | COPY_SCRATCHPAD)
 }
 
-// In event k device i is looked at, which is in a line state before it. The rules look only at the last slot of a
-// transfer, which the device has to hear, but every device at the memory command counts, whatever its speed.
-fn seen_with(
-    trace: &[u8],
-    answers: &[u8],
-    image: &[u8],
-    k: usize,
-    i: usize,
-    state: LineState,
-    seen: Seen,
-) -> Seen
+// In the event at the reader's place device i is looked at, which is in a line state before it. The rules look only at
+// the last slot of a transfer, which the device has to hear, but every device at the memory command counts, whatever
+// its speed.
+fn seen_with(recording: Recording, image: &[u8], i: usize, state: LineState, seen: Seen) -> Seen
     requires { seen.commands < 18446744073709551615 }
-    ensures { result ≡ seen_with trace.now answers.now image.now k i state seen }
+    ensures { result ≡ seen_with recording.entry.trace.now recording.entry.answers.now image.now
+        recording.entry.at i state seen }
 {
-    let transfer = state.transfer;
-    let stage = transfer.stage;
-    let last = is_slot_at(bits::byte_at(trace, k), state.overdrive) & !state.goes_on();
-    let value = bits::shift_in(transfer.register, level_at(answers, k));
-    match doing_of(stage) {
+    let k = recording.at;
+    let last = is_slot_at(recording.event(k), state.overdrive) & !state.goes_on();
+    let value = bits::shift_in(state.transfer.register, recording.level(k));
+    match doing_of(state.transfer.stage) {
         Doing::Command => Seen {
             commands: seen.commands + 1,
             completed: seen.completed | (last & is_write_or_copy(value)),
-            careless: seen.careless,
+            ..seen
         },
-        Doing::Address => seen,
-        Doing::Pattern { at, same } => {
-            if !last {
-                return seen;
-            }
-            let overdrive = state.overdrive;
-            let careless = is_careless(trace, answers, image, i, overdrive, k, at, same, value);
+        Doing::Pattern { at, same } if last => {
+            let careless = is_careless(recording, image, i, state.overdrive, at, same, value);
             Seen {
-                commands: seen.commands,
-                completed: seen.completed,
                 careless: seen.careless | careless,
+                ..seen
             }
         }
-        Doing::Other => seen,
+        _ => seen,
     }
 }
 
@@ -656,12 +505,7 @@ fn seen_with(
 fn is_at_memory(state: LineState) -> bool
     ensures { result ≡ at_memory state.transfer.stage }
 {
-    let transfer = state.transfer;
-    let stage = transfer.stage;
-    match stage {
-        Stage::Rom(_) => false,
-        Stage::Memory(_) => true,
-    }
+    matches!(state.transfer.stage, Stage::Memory(_))
 }
 
 fn nothing_seen() -> Seen
@@ -845,33 +689,18 @@ fn refusal(image: &[u8], trace: &[u8], answers: usize, work: usize, lines: usize
 
 // ---- all devices, and the trace
 
-// The image is laid over the start of the work space.
-fn lay(image: &[u8], work: &mut [u8])
-    ensures { work.new
-        ≡ laid_up_to (length image.now) image.now work.old }
-{
-    let mut k = 0;
-    while k < image.len() {
-        bits::put_byte(work, k, image[k]);
-        k += 1;
-    }
-}
-
-// Each of the first n devices is looked at in event k, before the event; one in the ROM stage adds nothing to what is
-// seen. Nothing changes.
-fn look(trace: &[u8], answers: &[u8], image: &[u8], lines: &[LineState], n: usize, k: usize) -> Seen
+// Each of the first n devices is looked at in the event at the reader's place, before the event; one in the ROM stage
+// adds nothing to what is seen. Nothing changes.
+fn look(recording: Recording, image: &[u8], lines: &[LineState], n: usize) -> Seen
     requires { n ≤ length lines.now }
-    ensures { result ≡ seen_up_to trace.now answers.now image.now
-        lines.now k n }
+    ensures { result ≡ seen_up_to recording.entry.trace.now recording.entry.answers.now image.now
+        lines.now recording.entry.at n }
 {
     let mut seen = nothing_seen();
-    let mut i: usize = 0;
-    while i < n {
-        let state = lines[i];
-        if is_at_memory(state) {
-            seen = seen_with(trace, answers, image, k, i, state, seen);
+    for (i, state) in lines[..n].iter().enumerate() {
+        if is_at_memory(*state) {
+            seen = seen_with(recording, image, i, *state, seen);
         }
-        i = i + 1;
     }
     seen
 }
@@ -892,16 +721,16 @@ fn judge_events(
         (judge_state Accepted work.old lines.old) }
 {
     let mut verdict = accepted();
-    let mut recording = recording::new(trace, answers);
+    let mut recording = Recording::new(trace, answers);
     while recording.at < trace.len() {
         let k = recording.at;
-        let byte = bits::byte_at(trace, k);
+        let byte = recording.event(k);
         let looked = still_looked_at(verdict, n);
-        let seen = look(trace, answers, work, lines, looked, k);
+        let seen = look(recording, work, lines, looked);
         let result = bus::step(work, lines, n, byte);
-        let agrees = recording::agrees(recording, result.level);
+        let agrees = recording.agrees(result.level);
         verdict = verdict_next(verdict, agrees, seen, k);
-        recording = recording::next(recording);
+        recording = recording.next();
     }
     verdict
 }
@@ -923,7 +752,7 @@ pub fn judge(
     let mut verdict = refused(number);
     if number == ACCEPTED {
         let n = bus::device_count(image);
-        lay(image, work);
+        work[..image.len()].copy_from_slice(image);
         bus::wait_all(lines, n);
         verdict = judge_events(trace, answers, work, lines, n);
     }

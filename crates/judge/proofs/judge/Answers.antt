@@ -1,4 +1,5 @@
-use Rattle.std.proofs.Common.{◌≡◌, ℕ, length, sym, ap, ◌∙◌, arith}
+use Rattle.std.proofs.Common.{◌≡◌, ℕ, ◌++◌, length, drop, sym, ap, ◌∙◌, arith}
+use Rattle.std.proofs.lemmas.List.{length-take-le}
 use borrow.Author.Tests.{ne_eqb}
 use Rattle.image.specs.Image.{count_of}
 use Rattle.device.specs.Device.{waiting_state}
@@ -10,6 +11,18 @@ use Rattle.judge.specs.Judge.{judge_outcome, judge_of}
 use Rattle.judge.specs.Loops.{judge_state, judge_events_up_to}
 use Rattle.judge.proofs.Shown.{judged, admits, judge-shown, judge-refused, judge-leaves}
 use Rattle.judge.proofs.judge.Goals as goal
+
+pub slice_bounds-copy_from_slice-end : goal.slice_bounds-copy_from_slice-end
+slice_bounds-copy_from_slice-end c =
+    (admits _ _ _ _ _ (sym c.refusal-number.ensures ∙ c.if-number-eq-ACCEPTED.true)).work-room
+
+pub slice_bounds-copy_from_slice-end-then-number-eq-ACCEPTED : goal.slice_bounds-copy_from_slice-end-then-number-eq-ACCEPTED
+slice_bounds-copy_from_slice-end-then-number-eq-ACCEPTED c =
+    sym (length-take-le _ _ (admits _ _ _ _ _ (sym c.refusal-number.ensures ∙ c.if-number-eq-ACCEPTED.true)).work-room)
+
+pub copy_from_slice-requires : goal.copy_from_slice-requires
+copy_from_slice-requires c =
+    length-take-le _ _ (admits _ _ _ _ _ (sym c.refusal-number.ensures ∙ c.if-number-eq-ACCEPTED.true)).work-room
 
 pub judge_events-verdict-requires : goal.judge_events-verdict-requires
 judge_events-verdict-requires c =
@@ -38,7 +51,8 @@ returns-then-number-eq-ACCEPTED c =
     let done : judge_state c.judge_events-verdict.result c.judge_events-verdict.new.work c.judge_events-verdict.new.lines
     ≡ judged im trace answers work ls =
     c.judge_events-verdict.ensures
-    ∙ (λ i. judge_events_up_to trace answers (count i) (length trace) (judge_state Accepted (c.lay.ensures i) (filled i))) in
+    ∙ (λ i. judge_events_up_to trace answers (count i) (length trace)
+    (judge_state Accepted (c.copy_from_slice.ensures.after i ++ drop (length im) work) (filled i))) in
     judge-leaves (judge_of im trace answers work ls) _ _ _
     ((λ i. judge_outcome (done i).verdict (done i).work (done i).lines) ∙ judge-shown im trace answers work ls none)
 

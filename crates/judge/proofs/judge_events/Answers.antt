@@ -1,8 +1,8 @@
-use Rattle.std.proofs.Common.{◌≡◌, ◌≤◌, ◌+◌, ℕ, List, length, sym, ap, ◌∙◌, arith}
+use Rattle.std.proofs.Common.{◌≡◌, ◌≤◌, ◌+◌, ℕ, List, length, get_or, sym, ap, ◌∙◌, arith}
 use denote.Ref.{Bor}
 use Rattle.recording.specs.Recorded.{agrees_at, next_at}
 use Rattle.judge.specs.declared.Verdict.TheVariants.{Accepted}
-use Rattle.judge.specs.Loops.{judge_state, judge_events_up_to}
+use Rattle.judge.specs.Loops.{seen_up_to, judge_state, judge_events_up_to}
 use Rattle.judge.proofs.Laws.{still-few}
 use Rattle.judge.proofs.Turns.{place_next, event_judged}
 use Rattle.judge.proofs.judge_events.Goals as goal
@@ -53,8 +53,9 @@ loop-recording-preserved c =
       trace = ap (λ (b : Bor (List ℕ)). b.now) c.next-recording.ensures.0 ∙ l.invariant.trace;
       answers = ap (λ (b : Bor (List ℕ)). b.now) c.next-recording.ensures.1 ∙ l.invariant.answers;
       state = event_judged trace answers n l.recording.at start l.verdict l.work l.lines l.invariant.state few
-          c.byte_at-byte.result c.byte_at-byte.ensures c.still_looked_at-looked.result c.still_looked_at-looked.ensures
-          c.look-seen.result c.look-seen.ensures c.step-result.result e.0 c.agrees-agrees.result agrees
+          c.event-byte.result (c.event-byte.ensures ∙ ap (λ (xs : List ℕ). get_or xs l.recording.at 0) l.invariant.trace) c.still_looked_at-looked.result c.still_looked_at-looked.ensures
+          c.look-seen.result
+          (c.look-seen.ensures ∙ (λ i. seen_up_to (l.invariant.trace i) (l.invariant.answers i) l.work l.lines l.recording.at c.still_looked_at-looked.result)) c.step-result.result e.0 c.agrees-agrees.result agrees
           c.verdict_next-verdict.result c.verdict_next-verdict.ensures c.step-result.new.image e.1 c.step-result.new.lines e.2
           ∙ ap (λ (k : ℕ). judge_events_up_to trace answers n k start) (sym at);
     }

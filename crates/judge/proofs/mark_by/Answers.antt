@@ -1,26 +1,24 @@
+use Rattle.std.proofs.Common.{arith}
+use Rattle.std.proofs.lemmas.Grind.{common_steps}
 use Rattle.judge.specs.Loops.{mark_by}
 use Rattle.judge.proofs.mark_by.Goals as goal
 
-pub returns-then-last-value : goal.returns-then-last-value
+pub returns-in-Command : goal.returns-in-Command
 unfolding mark_by
-returns-then-last-value c = simp (c.if-last-value.true, c.in-Command.is)
+returns-in-Command c = grind (arith, common_steps)
 
-pub returns-else-last-value : goal.returns-else-last-value
+pub returns-in-Address : goal.returns-in-Address
 unfolding mark_by
-returns-else-last-value c = simp (c.if-last-value.false, c.in-Command.is)
+returns-in-Address c = grind (arith, common_steps)
 
-pub returns-then-last : goal.returns-then-last
+pub returns-in_default : goal.returns-in_default
 unfolding mark_by
-returns-then-last c = simp (c.if-last.true, c.in-Address.is)
+returns-in_default c = grind (arith, common_steps)
 
-pub returns-else-last : goal.returns-else-last
+pub returns-in_default-2 : goal.returns-in_default-2
 unfolding mark_by
-returns-else-last c = simp (c.if-last.false, c.in-Address.is)
+returns-in_default-2 c = grind (arith, common_steps)
 
-pub returns-in-Pattern : goal.returns-in-Pattern
+pub returns-in_default-3 : goal.returns-in_default-3
 unfolding mark_by
-returns-in-Pattern c = simp c.in-Pattern.is
-
-pub returns-in-Other : goal.returns-in-Other
-unfolding mark_by
-returns-in-Other c = simp c.in-Other.is
+returns-in_default-3 c = grind (arith, common_steps)
