@@ -1,7 +1,6 @@
 -- Laws that the proofs of this crate cite. Assumes nothing.
 use Prim.Native.Nat.{ℕ, zero, suc, ◌+◌, ◌-◌, ◌*◌, ◌^◌, ◌<◌, ◌≤◌}
 use Rattle.std.proofs.Common.{min}
-use Rattle.std.specs.List.{list_any, range_with_len}
 use mathlib.Core.Path.{◌≡◌, refl, sym, ap, subst, ◌∙◌}
 use mathlib.Core.Bool.{Bool, true, false, not, cond, ◌&&◌, ◌||◌, or_assoc, or-false, true≢false}
 use mathlib.Core.List.{List, [], ◌∷◌, ◌++◌}
@@ -14,7 +13,10 @@ use borrow.Author.Tests.{leb-true, ltb-true, ltb-false, le-ltb}
 use Rattle.kind.specs.declared.Kind.TheVariants.{Unknown}
 use Rattle.kind.specs.Kind.{body_size}
 use Rattle.image.specs.Image.{count_of, kind_at, offset_at}
-use Rattle.image.specs.Refusal.{some_below, Cause, cause, first_cause, image_causes, image_refusal}
+use Rattle.image.specs.declared.Refusal.{Refusal}
+use Rattle.image.specs.declared.Refusal.TheVariants.{MalformedImage, MisplacedBody, WrongCode, EqualCodes, BadTrace, NoFirstReset, BadPulse, NoRoom}
+use Rattle.image.specs.Refusal.{refusal_number}
+use Rattle.image.specs.Refusal.{Cause, cause, first_cause, image_causes, image_refusal}
 use Rattle.device.specs.declared.LineState.{LineState}
 use Rattle.bus.specs.Refusal.{some_byte, bad_trace, no_first_reset, bad_pulse, no_run_room, run_causes, run_refusal}
 use Rattle.bus.specs.declared.Place.{Place}
@@ -70,22 +72,6 @@ byte_more p trace k found h inv =
 pub byte-end : (p : ℕ → Bool) (trace : List ℕ) (k : ℕ) (found : Bool) → length trace ≤ k → (found || some_byte p (drop k trace)) ≡ some_byte p trace → found ≡ some_byte p trace
 unfolding some_byte
 byte-end p trace k found h inv = sym (or-false found) ∙ ap (λ (l : List ℕ). found || some_byte p l) (sym (drop_of_length-le trace h)) ∙ inv
-
--- ---- a test at some number below n
-
-any-more : (p : ℕ → Bool) (a n : ℕ) → list_any p (range_with_len a (suc n)) ≡ (list_any p (range_with_len a n) || p (a + n))
-any-more p a zero = or-false (p a) ∙ ap p (omega arith)
-any-more p a (suc n) =
-    let e : a + 1 + n ≡ a + suc n = omega arith in
-    ap (λ (b : Bool). p a || b) (any-more p (a + 1) n ∙ ap (λ (k : ℕ). list_any p (range_with_len (a + 1) n) || p k) e)
-    ∙ sym (or_assoc (p a) (list_any p (range_with_len (a + 1) n)) (p (a + suc n)))
-
-pub any_below : (p : ℕ → Bool) (n : ℕ) → list_any p (range_with_len 0 n) ≡ some_below n p
-unfolding some_below
-any_below p zero = refl
-any_below p (suc n) =
-    let e : 0 + n ≡ n = omega arith in
-    any-more p 0 n ∙ ap (λ (k : ℕ). list_any p (range_with_len 0 n) || p k) e ∙ ap (λ (b : Bool). b || p n) (any_below p n)
 
 -- ---- the first event of a trace
 
@@ -143,6 +129,18 @@ unfolding run_refusal run_causes image_causes image_refusal first_cause
 run-causes image trace answers lines h =
     first-none (image_causes image) (causes-left image trace answers lines)
     (lit< tt, (lit< tt, (lit< tt, (lit< tt, (lit< tt, tt))))) h
+
+-- no refusal has the number of what is not refused
+pub refusal-some : (refusal : Refusal) → refusal_number refusal ≡ 0 → ⊥
+unfolding refusal_number
+refusal-some MalformedImage e = absurd (omega arith)
+refusal-some MisplacedBody e = absurd (omega arith)
+refusal-some WrongCode e = absurd (omega arith)
+refusal-some EqualCodes e = absurd (omega arith)
+refusal-some BadTrace e = absurd (omega arith)
+refusal-some NoFirstReset e = absurd (omega arith)
+refusal-some BadPulse e = absurd (omega arith)
+refusal-some NoRoom e = absurd (omega arith)
 
 -- what is not refused: an accepted image, a trace of events that all devices take, and room
 pub record Admitted (image trace : List ℕ) (answers lines : ℕ) : Type 0 where
