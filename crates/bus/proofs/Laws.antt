@@ -1,5 +1,7 @@
 -- Laws that the proofs of this crate cite. Assumes nothing.
 use Prim.Native.Nat.{ℕ, zero, suc, ◌+◌, ◌-◌, ◌*◌, ◌^◌, ◌<◌, ◌≤◌}
+use Rattle.std.proofs.Common.{min}
+use Rattle.std.specs.List.{list_any, range_with_len}
 use mathlib.Core.Path.{◌≡◌, refl, sym, ap, subst, ◌∙◌}
 use mathlib.Core.Bool.{Bool, true, false, not, cond, ◌&&◌, ◌||◌, or_assoc, or-false, true≢false}
 use mathlib.Core.List.{List, [], ◌∷◌, ◌++◌}
@@ -12,7 +14,7 @@ use borrow.Author.Tests.{leb-true, ltb-true, ltb-false, le-ltb}
 use Rattle.kind.specs.declared.Kind.TheVariants.{Unknown}
 use Rattle.kind.specs.Kind.{body_size}
 use Rattle.image.specs.Image.{count_of, kind_at, offset_at}
-use Rattle.image.specs.Refusal.{Cause, cause, first_cause, image_causes, image_refusal}
+use Rattle.image.specs.Refusal.{some_below, Cause, cause, first_cause, image_causes, image_refusal}
 use Rattle.device.specs.declared.LineState.{LineState}
 use Rattle.bus.specs.Refusal.{some_byte, bad_trace, no_first_reset, bad_pulse, no_run_room, run_causes, run_refusal}
 use Rattle.bus.specs.declared.Place.{Place}
@@ -68,6 +70,22 @@ byte_more p trace k found h inv =
 pub byte-end : (p : ℕ → Bool) (trace : List ℕ) (k : ℕ) (found : Bool) → length trace ≤ k → (found || some_byte p (drop k trace)) ≡ some_byte p trace → found ≡ some_byte p trace
 unfolding some_byte
 byte-end p trace k found h inv = sym (or-false found) ∙ ap (λ (l : List ℕ). found || some_byte p l) (sym (drop_of_length-le trace h)) ∙ inv
+
+-- ---- a test at some number below n
+
+any-more : (p : ℕ → Bool) (a n : ℕ) → list_any p (range_with_len a (suc n)) ≡ (list_any p (range_with_len a n) || p (a + n))
+any-more p a zero = or-false (p a) ∙ ap p (omega arith)
+any-more p a (suc n) =
+    let e : a + 1 + n ≡ a + suc n = omega arith in
+    ap (λ (b : Bool). p a || b) (any-more p (a + 1) n ∙ ap (λ (k : ℕ). list_any p (range_with_len (a + 1) n) || p k) e)
+    ∙ sym (or_assoc (p a) (list_any p (range_with_len (a + 1) n)) (p (a + suc n)))
+
+pub any_below : (p : ℕ → Bool) (n : ℕ) → list_any p (range_with_len 0 n) ≡ some_below n p
+unfolding some_below
+any_below p zero = refl
+any_below p (suc n) =
+    let e : 0 + n ≡ n = omega arith in
+    any-more p 0 n ∙ ap (λ (k : ℕ). list_any p (range_with_len 0 n) || p k) e ∙ ap (λ (b : Bool). b || p n) (any_below p n)
 
 -- ---- the first event of a trace
 
@@ -288,6 +306,16 @@ step-on n byte s h =
     ap (λ (m : ℕ). turns_up_to byte (level_on s.lines n byte) m s) (fewer-first n (length s.lines) h)
 
 -- ---- the sums of bytes copied
+
+-- one that saturates is such a sum
+saturated-at : (sum bytes : ℕ) (t : Bool) → ltb (most_copied - sum) bytes ≡ t → sum < 2 ^ 64
+    → min (sum + bytes) (2 ^ 64 - 1) ≡ cond t most_copied (sum + bytes)
+saturated-at sum bytes true e h = omega (arith, ltb-true (most_copied - sum) bytes e, h)
+saturated-at sum bytes false e h = omega (arith, ltb-false (most_copied - sum) bytes e, h)
+
+pub saturated : (sum bytes : ℕ) → sum < 2 ^ 64 → min (sum + bytes) (2 ^ 64 - 1) ≡ added_to sum bytes
+unfolding added_to
+saturated sum bytes h = saturated-at sum bytes (ltb (most_copied - sum) bytes) refl h
 
 added-at : (sum bytes : ℕ) (t : Bool) → ltb (most_copied - sum) bytes ≡ t → sum ≤ most_copied
     → cond t most_copied (sum + bytes) ≤ most_copied

@@ -1,14 +1,14 @@
 -- Where the image is not refused and there is room, what the loops of `specs/Loops.antt` do is what `specs/Bus.antt` and `specs/Run.antt` say.
 use Prim.Native.Nat.{ℕ, zero, suc, ◌+◌, ◌-◌, ◌*◌, ◌<◌, ◌≤◌}
 use mathlib.Core.Path.{◌≡◌, refl, sym, ap, subst, ◌∙◌}
-use mathlib.Core.Bool.{Bool, true, false, cond, not, ◌&&◌}
+use mathlib.Core.Bool.{Bool, true, false, cond, ◌&&◌}
 use mathlib.Core.List.{List, [], ◌∷◌, ◌++◌, map, append_assoc, append-nil, map-append}
 use native.Mathlib.Omega.{arith}
 use native.Mathlib.Nat.{add-zero}
 use native.Mathlib.Numerals.{add-one}
 use lib.ListN.{length, get_or, set, take, drop, replicate, length-append, length-map, length-replicate, take-append-drop, replicate-append-replicate, get_or-append}
 use lib.Seq.{length-take-le, get_or-take, take_at, drop_at, get_or_at, set_at, drop-append-add, take-suc, drop-cons, append_snoc, take-length, drop-length, drop-drop}
-use lib.Dec.{T, eqb}
+use lib.Dec.{eqb}
 use borrow.Author.Tests.{lt-ltb, le-ltb, le-leb}
 use Rattle.kind.specs.declared.Kind.{Kind}
 use Rattle.kind.specs.declared.Kind.TheVariants.{Unknown}
@@ -27,7 +27,11 @@ use Rattle.bus.specs.Refusal.{some_byte, bad_trace, no_first_reset, bad_pulse, r
 use Rattle.bus.specs.Loops.{passed_over, next_state_as_is, next_body_as_is, place_in, device_at_place, device_in, image_with_body, turn_state, turn_image, level_as_is, level_on, line_at, BusState, bus_state, turn_at, turns_up_to, filled_up_to, RunState, run_state, run_event_at, run_events_up_to}
 use Rattle.bus.specs.Loops.{looked_as_is, looked_on, fewer_of}
 use Rattle.bus.specs.Loops.{copied_as_is, turn_copied, most_copied, added_to, copied_up_to, copied_on, copied_by_events}
-use Rattle.bus.specs.declared.RunResult.{RunResult}
+use Rattle.std.specs.Prelude.{Err}
+use Rattle.image.specs.declared.Refusal.{Refusal}
+use Rattle.image.specs.declared.Refusal.TheVariants.{MalformedImage, MisplacedBody, WrongCode, EqualCodes, BadTrace, NoFirstReset, BadPulse, NoRoom}
+use Rattle.image.specs.Refusal.{refusal_number}
+use Rattle.bus.specs.Run.{RunResult, run_told}
 use Rattle.device.proofs.Range.{waiting-in-range}
 use Rattle.bus.proofs.Laws.{admitted, not-refused, short-trace, fewer-first}
 use Rattle.bus.proofs.Ranges.{InRange, AllIn, as-it-is-state, as-it-is-body, level-as-it-is, part_in, in-at, run_in}
@@ -530,15 +534,24 @@ run-shown trace image answers lines e =
     ∙ ap (λ (m : ℕ). run_at m image trace answers lines) (sym e)
 
 -- what is refused changes nothing, and copies nothing
-refused-at : (m : ℕ) (trace image answers : List ℕ) (lines : List LineState) → T (not (eqb m 0)) → run_outcome (run_result m 0) image answers lines ≡ run_at m image trace answers lines
-unfolding run_at
-refused-at zero trace image answers lines t = absurd t
-refused-at (suc m) trace image answers lines t = refl
+refused-at : (refusal : Refusal) (trace image answers : List ℕ) (lines : List LineState)
+    → run_outcome (run_told (Err refusal)) image answers lines ≡ run_at (refusal_number refusal) image trace answers lines
+unfolding run_told run_at refusal_number
+refused-at MalformedImage trace image answers lines = refl
+refused-at MisplacedBody trace image answers lines = refl
+refused-at WrongCode trace image answers lines = refl
+refused-at EqualCodes trace image answers lines = refl
+refused-at BadTrace trace image answers lines = refl
+refused-at NoFirstReset trace image answers lines = refl
+refused-at BadPulse trace image answers lines = refl
+refused-at NoRoom trace image answers lines = refl
 
-pub run-refused : (trace image answers : List ℕ) (lines : List LineState) → T (not (eqb (run_refusal image trace (length answers) (length lines)) 0))
-    → run_outcome (run_result (run_refusal image trace (length answers) (length lines)) 0) image answers lines ≡ run_of image trace answers lines
+pub run-refused : (refusal : Refusal) (trace image answers : List ℕ) (lines : List LineState)
+    → refusal_number refusal ≡ run_refusal image trace (length answers) (length lines)
+    → run_outcome (run_told (Err refusal)) image answers lines ≡ run_of image trace answers lines
 unfolding run_of
-run-refused trace image answers lines t = refused-at (run_refusal image trace (length answers) (length lines)) trace image answers lines t
+run-refused refusal trace image answers lines e =
+    refused-at refusal trace image answers lines ∙ ap (λ (m : ℕ). run_at m image trace answers lines) e
 
 -- what a run left, as one equation and as an equation for each thing
 pub run-leaves : (left : RunOutcome) (result : RunResult) (image answers : List ℕ) (lines : List LineState)
