@@ -29,8 +29,7 @@ use Rattle.judge.specs.declared.Doing.TheVariants.{Command, Address, Pattern, Ot
 use Rattle.judge.specs.declared.Seen.{Seen}
 use Rattle.judge.specs.Loops.{doing_of, careless_at, seen_by, seen_with, at_memory, seen_up_to}
 use Rattle.judge.specs.Loops.{back_at, back_from, careful_by}
-use Rattle.judge.specs.declared.Verdict.{Verdict}
-use Rattle.judge.specs.declared.Verdict.TheVariants.{Accepted, Broken, Refused}
+use Rattle.judge.specs.Judge.{Verdict, Accepted, Broken, Refused}
 use Rattle.judge.specs.Loops.{verdict_next, still_looked_at}
 
 -- ---- the part of a trace

@@ -8,7 +8,7 @@ use native.Mathlib.Omega.{arith}
 use native.Mathlib.Nat.{eq-or-lt_of_le}
 use lib.ListN.{length, get_or, take, drop, replicate, take-append-drop}
 use lib.Seq.{length-take-le, drop-cons, get_or_at, take-length}
-use lib.Dec.{T, eqb, ltb}
+use lib.Dec.{eqb, ltb}
 use borrow.Author.Tests.{eqb-true, ltb-false, lt-ltb, not-false}
 use Rattle.bits.specs.Bit.{level_byte}
 use Rattle.kind.specs.declared.Kind.{Kind}
@@ -30,12 +30,13 @@ use Rattle.bus.proofs.Ranges.{AllIn, run_in}
 use Rattle.bus.proofs.Runs.{run-append, run_length, run-same, same_length}
 use Rattle.bus.proofs.Shown.{Stand, stand-same, image_of, device-is, level-is, turned-is, waiting-all, waiting-stands, waiting-in, waiting-image, waiting-states, filled_is}
 use Rattle.judge.specs.declared.Rule.TheVariants as rules
-use Rattle.judge.specs.declared.Verdict.{Verdict}
-use Rattle.judge.specs.declared.Verdict.TheVariants.{Accepted, Broken, Refused}
+use Rattle.image.specs.declared.Refusal.{Refusal}
+use Rattle.image.specs.declared.Refusal.TheVariants.{MalformedImage, MisplacedBody, WrongCode, EqualCodes, BadTrace, NoFirstReset, BadPulse, NoRoom}
+use Rattle.image.specs.Refusal.{refusal_number}
+use Rattle.judge.specs.Judge.{Verdict, Accepted, Broken, Refused, First, none, at, or_here, first_below, verdict_by, verdict_of, JudgeOutcome, judge_outcome, JudgeLeaves, left_by_judge, judge_at, judge_of}
 use Rattle.judge.specs.declared.Seen.{Seen}
 use Rattle.judge.specs.Rules.{Moment, at_memory_command, is_memory_command, completes, is_made, accepts_copy, wanted_bits, shown_since_write, device_at, devices_at, moment_at, moments_of, breaks_a, count_below, breaks_b, breaks_c}
 use Rattle.judge.specs.Refusal.{judge_refusal}
-use Rattle.judge.specs.Judge.{First, none, at, or_here, first_below, verdict_by, verdict_of, JudgeOutcome, judge_outcome, JudgeLeaves, left_by_judge, judge_at, judge_of}
 use Rattle.judge.specs.Loops.{slot_at, body_in, careless_at, pattern_accepted, careful_at, doing_of, seen_so, seen_by, seen_with, seen_up_to, verdict_here, verdict_kept, verdict_next, JudgeState, judge_state, judge_event_at, judge_events_up_to}
 use Rattle.judge.proofs.Laws.{judged-room, refused-as-run}
 use Rattle.judge.proofs.Rest.{take-drop, device-q, turns-q}
@@ -371,17 +372,24 @@ judge-shown image trace answers work lines e =
     ∙ ap (λ (m : ℕ). judge_at m image trace answers work lines) (sym e)
 
 -- what is refused changes nothing
-refused-at : (m : ℕ) (image trace answers work : List ℕ) (lines : List LineState) → T (not (eqb m 0)) → judge_outcome (Refused m) work lines ≡ judge_at m image trace answers work lines
-unfolding judge_at
-refused-at zero image trace answers work lines t = absurd t
-refused-at (suc m) image trace answers work lines t = refl
+refused-at : (refusal : Refusal) (image trace answers work : List ℕ) (lines : List LineState)
+    → judge_outcome (Refused (refusal_number refusal)) work lines ≡ judge_at (refusal_number refusal) image trace answers work lines
+unfolding judge_at refusal_number
+refused-at MalformedImage image trace answers work lines = refl
+refused-at MisplacedBody image trace answers work lines = refl
+refused-at WrongCode image trace answers work lines = refl
+refused-at EqualCodes image trace answers work lines = refl
+refused-at BadTrace image trace answers work lines = refl
+refused-at NoFirstReset image trace answers work lines = refl
+refused-at BadPulse image trace answers work lines = refl
+refused-at NoRoom image trace answers work lines = refl
 
-pub judge-refused : (image trace answers work : List ℕ) (lines : List LineState)
-    → T (not (eqb (judge_refusal image trace (length answers) (length work) (length lines)) 0))
-    → judge_outcome (Refused (judge_refusal image trace (length answers) (length work) (length lines))) work lines ≡ judge_of image trace answers work lines
+pub judge-refused : (refusal : Refusal) (image trace answers work : List ℕ) (lines : List LineState)
+    → refusal_number refusal ≡ judge_refusal image trace (length answers) (length work) (length lines)
+    → judge_outcome (Refused (refusal_number refusal)) work lines ≡ judge_of image trace answers work lines
 unfolding judge_of
-judge-refused image trace answers work lines t =
-    refused-at (judge_refusal image trace (length answers) (length work) (length lines)) image trace answers work lines t
+judge-refused refusal image trace answers work lines e =
+    refused-at refusal image trace answers work lines ∙ ap (λ (m : ℕ). judge_at m image trace answers work lines) e
 
 -- what the judge left, as one equation and as an equation for each thing
 pub judge-leaves : (left : JudgeOutcome) (verdict : Verdict) (work : List ℕ) (lines : List LineState)

@@ -10,7 +10,7 @@ use Rattle.bus.specs.declared.EventResult.{EventResult}
 use Rattle.bus.specs.Loops.{line_at, level_on, scan_on, copied_on, step_on, event_result, BusState, bus_state, turns_up_to}
 use Rattle.bus.proofs.Laws.{step-on}
 use Rattle.judge.specs.declared.Seen.{Seen}
-use Rattle.judge.specs.declared.Verdict.{Verdict}
+use Rattle.judge.specs.Judge.{Verdict}
 use Rattle.judge.specs.Loops.{seen_with, at_memory, seen_up_to, verdict_next, still_looked_at}
 use Rattle.judge.specs.Loops.{JudgeState, judge_state, judge_event_at, judge_events_up_to}
 use Rattle.judge.proofs.Laws.{seen_few, rom-adds-nothing, still-enough}

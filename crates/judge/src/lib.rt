@@ -9,13 +9,14 @@
 #![tactic(auto)]
 
 ghost use Rattle.std.specs.Prelude.{◌≡◌, ◌≤◌, ◌<◌, ◌+◌, ◌-◌, true, false, cond, ◌||◌, length, eqb};
+ghost use Rattle.image.specs.Refusal.{refusal_number, number_of};
 ghost use Rattle.sram.specs.Sram.{target_offset};
 ghost use Rattle.device.specs.Device.{reset_at};
-ghost use Rattle.bus.specs.Bus.{device_with, event_of};
+ghost use Rattle.bus.specs.Bus.{device_with};
 ghost use Rattle.bus.specs.Loops.{place_in, next_state_as_is};
 ghost use Rattle.judge.specs.Refusal.{judge_refusal};
-ghost use Rattle.judge.specs.declared.Verdict.TheVariants.{Accepted, Refused};
-ghost use Rattle.judge.specs.Judge.{rule_number, refusal_of, rule_of, broken_at, JudgeLeaves, judge_of};
+ghost use Rattle.judge.specs.Judge.{Accepted, so_far, told, rule_number, refusal_of, rule_of, broken_at};
+ghost use Rattle.judge.specs.Judge.{JudgeLeaves, judge_of};
 ghost use Rattle.judge.specs.Loops.{doing_of, slot_at, passed_at, after_slot_at};
 ghost use Rattle.judge.specs.Loops.{line_next, mark_by, mark_of, wanted_bytes, wanted_bit, goes_on_at, bits_in};
 ghost use Rattle.judge.specs.Loops.{shown_from};
@@ -25,27 +26,27 @@ ghost use Rattle.judge.specs.Loops.{pattern_accepted, careless_at, seen_with, at
 ghost use Rattle.judge.specs.Loops.{verdict_here, verdict_kept, verdict_next, judge_state};
 ghost use Rattle.judge.specs.Loops.{judge_events_up_to, still_looked_at};
 
+use bus::Event;
 use device::LineState;
-use image::ACCEPTED;
+use image::{ACCEPTED, Refusal};
 use kind::Kind;
 use line::{MemoryStage, SramStage, Stage};
 use recording::Recording;
 
 // Document 02's rules A, B and C: the answers are the bench's; no write or copy command goes to more than one device;
 // each copy was read back before.
-#[derive(Clone, Copy)]
+#[derive(Clone, Copy, Debug, PartialEq, Eq)]
 pub enum Rule {
     Answers,
     Command,
     Copy,
 }
 
-#[derive(Clone, Copy)]
-pub enum Verdict {
-    Accepted,
-    // The event is the first that breaks the rule.
-    Broken { rule: Rule, event: usize },
-    Refused(u32),
+// The event is the first that breaks the rule.
+#[derive(Clone, Copy, Debug, PartialEq, Eq)]
+pub struct Broken {
+    pub rule: Rule,
+    pub event: usize,
 }
 
 // What a device does in a stage, as far as the rules look at it.
@@ -140,9 +141,9 @@ fn doing_of(stage: Stage) -> Doing
 fn is_slot_at(byte: u8, overdrive: bool) -> bool
     ensures { result ≡ slot_at byte overdrive }
 {
-    match byte {
-        0 | 1 => !overdrive,
-        4 | 5 => overdrive,
+    match Event::from(byte) {
+        Event::Slot(_) => !overdrive,
+        Event::OverdriveSlot(_) => overdrive,
         _ => false,
     }
 }
@@ -151,7 +152,8 @@ fn is_slot_at(byte: u8, overdrive: bool) -> bool
 fn is_passed_at(byte: u8, overdrive: bool) -> bool
     ensures { result ≡ passed_at byte overdrive }
 {
-    matches!(byte, 4 | 5 | 6) & !overdrive
+    let event = Event::from(byte);
+    matches!(event, Event::OverdriveSlot(_) | Event::OverdriveReset) & !overdrive
 }
 
 // A slot at the device's own speed is one step of it. Of the others a regular one makes it wait, and one at overdrive
@@ -178,15 +180,15 @@ fn after_overdrive_reset(state: LineState) -> LineState
 }
 
 // This is the line state after an event at a level, as the bus has it; the body is only read.
-fn after_event(state: LineState, kind: Kind, body: &[u8], byte: u8, level: bool) -> LineState
-    ensures { result ≡ next_state_as_is (event_of byte) level (device_with kind body.now state) }
+fn after_event(state: LineState, kind: Kind, body: &[u8], event: Event, level: bool) -> LineState
+    ensures { result ≡ next_state_as_is event level (device_with kind body.now state) }
 {
-    match byte {
-        0 | 1 => after_slot(state, kind, body, false, level),
-        RESET => LineState::at_reset(false),
-        4 | 5 => after_slot(state, kind, body, true, level),
-        OVERDRIVE_RESET => after_overdrive_reset(state),
-        _ => state.pulsed_as_is(body),
+    match event {
+        Event::Slot(_) => after_slot(state, kind, body, false, level),
+        Event::Reset => LineState::at_reset(false),
+        Event::Pulse => state.pulsed_as_is(body),
+        Event::OverdriveSlot(_) => after_slot(state, kind, body, true, level),
+        Event::OverdriveReset => after_overdrive_reset(state),
     }
 }
 
@@ -296,8 +298,8 @@ impl<'a> Followed<'a> {
         ensures { result ≡ line_next self.entry.recording.trace.now
             self.entry.recording.answers.now self.entry.kind self.entry.body.now k state }
     {
-        let byte = self.recording.event(k);
-        after_event(state, self.kind, self.body, byte, self.recording.level(k))
+        let event = Event::from(self.recording.event(k));
+        after_event(state, self.kind, self.body, event, self.recording.level(k))
     }
 
     // A read of the device, which is at overdrive or not, goes on in event k if this is a slot that it hears and that
@@ -521,170 +523,130 @@ fn nothing_seen() -> Seen
 // ---- the verdict so far
 
 // In event k, whose answer is as recorded, this is the first broken rule, if one is.
-fn verdict_here(seen: Seen, k: usize) -> Verdict
-    ensures { result ≡ verdict_here seen k }
+#[tactic(auto, unfolding(crate::specs::Judge::so_far, crate::specs::Loops::verdict_here))]
+fn verdict_here(seen: Seen, k: usize) -> Option<Broken>
+    ensures { so_far result ≡ verdict_here seen k }
 {
-    if (1 < seen.commands) & seen.completed {
-        return Verdict::Broken {
-            rule: Rule::Command,
-            event: k,
-        };
-    }
-    if seen.careless {
-        return Verdict::Broken {
-            rule: Rule::Copy,
-            event: k,
-        };
-    }
-    Verdict::Accepted
+    let rule = if (1 < seen.commands) & seen.completed {
+        Rule::Command
+    } else if seen.careless {
+        Rule::Copy
+    } else {
+        return None;
+    };
+    Some(Broken { rule, event: k })
 }
 
 // A rule that was broken at an event before k stays the verdict, unless the answer of event k breaks rule A, which goes
 // before the others.
-fn verdict_kept(rule: Rule, event: usize, agrees: bool, k: usize) -> Verdict
-    ensures { result ≡ verdict_kept rule event agrees k }
+#[tactic(auto, unfolding(crate::specs::Judge::so_far, crate::specs::Loops::verdict_kept))]
+fn verdict_kept(broken: Broken, agrees: bool, k: usize) -> Broken
+    ensures { so_far (Some result) ≡ verdict_kept broken.rule broken.event agrees k }
 {
-    match rule {
-        Rule::Answers => Verdict::Broken {
+    if agrees | (broken.rule == Rule::Answers) {
+        broken
+    } else {
+        Broken {
             rule: Rule::Answers,
-            event,
-        },
-        Rule::Command => {
-            if agrees {
-                Verdict::Broken {
-                    rule: Rule::Command,
-                    event,
-                }
-            } else {
-                Verdict::Broken {
-                    rule: Rule::Answers,
-                    event: k,
-                }
-            }
-        }
-        Rule::Copy => {
-            if agrees {
-                Verdict::Broken {
-                    rule: Rule::Copy,
-                    event,
-                }
-            } else {
-                Verdict::Broken {
-                    rule: Rule::Answers,
-                    event: k,
-                }
-            }
+            event: k,
         }
     }
 }
 
 // Event k, whose answer agrees with what was recorded or not, leaves this verdict.
-fn verdict_next(verdict: Verdict, agrees: bool, seen: Seen, k: usize) -> Verdict
-    ensures { result ≡ verdict_next verdict agrees seen k }
+#[tactic(auto, unfolding(crate::specs::Judge::so_far, crate::specs::Loops::verdict_next))]
+fn verdict_next(verdict: Option<Broken>, agrees: bool, seen: Seen, k: usize) -> Option<Broken>
+    ensures { so_far result ≡ verdict_next (so_far verdict) agrees seen k }
 {
     match verdict {
-        Verdict::Accepted => {
-            if agrees {
-                verdict_here(seen, k)
-            } else {
-                Verdict::Broken {
-                    rule: Rule::Answers,
-                    event: k,
-                }
-            }
-        }
-        Verdict::Broken { rule, event } => verdict_kept(rule, event, agrees, k),
-        Verdict::Refused(number) => Verdict::Refused(number),
+        Some(broken) => Some(verdict_kept(broken, agrees, k)),
+        None if agrees => verdict_here(seen, k),
+        None => Some(Broken {
+            rule: Rule::Answers,
+            event: k,
+        }),
     }
 }
 
 // So many of the n devices are still looked at. Once a rule is broken only a later A changes the verdict, and what is
 // seen of the devices has no part in that: a walk back at each further copy would be for nothing.
-fn still_looked_at(verdict: Verdict, n: usize) -> usize
-    ensures { result ≡ still_looked_at verdict n }
+#[tactic(auto, unfolding(crate::specs::Judge::so_far, crate::specs::Loops::still_looked_at))]
+fn still_looked_at(verdict: Option<Broken>, n: usize) -> usize
+    ensures { result ≡ still_looked_at (so_far verdict) n }
 {
-    match verdict {
-        Verdict::Accepted => n,
-        Verdict::Broken { .. } => 0,
-        Verdict::Refused(_) => 0,
-    }
-}
-
-fn accepted() -> Verdict
-    ensures { result ≡ Accepted }
-{
-    Verdict::Accepted
-}
-
-fn refused(number: u32) -> Verdict
-    ensures { result ≡ Refused number }
-{
-    Verdict::Refused(number)
+    if verdict.is_none() { n } else { 0 }
 }
 
 // ---- the numbers of a verdict
 
-fn rule_number(rule: Rule) -> u64
-    ensures { result ≡ rule_number rule }
-{
-    match rule {
-        Rule::Answers => 1,
-        Rule::Command => 2,
-        Rule::Copy => 3,
+// A C program is told the rules A, B and C as 1, 2 and 3.
+impl From<Rule> for u64 {
+    ghost from_gives = { λ rule number. number ≡ rule_number rule };
+
+    #[tactic(auto, unfolding(crate::specs::Judge::rule_number))]
+    fn from(rule: Rule) -> u64 {
+        match rule {
+            Rule::Answers => 1,
+            Rule::Command => 2,
+            Rule::Copy => 3,
+        }
     }
 }
 
 // The refusal's number is 0 where the recording is judged.
-pub fn refusal_of(verdict: Verdict) -> u32
-    ensures { result ≡ refusal_of verdict }
+#[tactic(auto, unfolding(crate::specs::Judge::told, crate::specs::Judge::so_far, crate::specs::Judge::refusal_of))]
+pub fn refusal_of(verdict: Result<Option<Broken>, Refusal>) -> u32
+    ensures { result ≡ refusal_of (told verdict) }
 {
     match verdict {
-        Verdict::Accepted => 0,
-        Verdict::Broken { rule: _, event: _ } => 0,
-        Verdict::Refused(number) => number,
+        Ok(_) => ACCEPTED,
+        Err(refusal) => u32::from(refusal),
     }
 }
 
 // The broken rule is 1 for A, 2 for B and 3 for C; it is 0 where none is broken.
-pub fn rule_of(verdict: Verdict) -> u64
-    ensures { result ≡ rule_of verdict }
+#[tactic(auto, unfolding(crate::specs::Judge::told, crate::specs::Judge::so_far, crate::specs::Judge::rule_of))]
+pub fn rule_of(verdict: Result<Option<Broken>, Refusal>) -> u64
+    ensures { result ≡ rule_of (told verdict) }
 {
     match verdict {
-        Verdict::Accepted => 0,
-        Verdict::Broken { rule, event: _ } => rule_number(rule),
-        Verdict::Refused(_) => 0,
+        Ok(Some(broken)) => u64::from(broken.rule),
+        _ => 0,
     }
 }
 
 // The event that breaks the rule is 0 where none is broken.
-pub fn event_of(verdict: Verdict) -> u64
-    ensures { result ≡ broken_at verdict }
+#[tactic(auto, unfolding(crate::specs::Judge::told, crate::specs::Judge::so_far, crate::specs::Judge::broken_at))]
+pub fn event_of(verdict: Result<Option<Broken>, Refusal>) -> u64
+    ensures { result ≡ broken_at (told verdict) }
 {
     match verdict {
-        Verdict::Accepted => 0,
-        Verdict::Broken { rule: _, event } => event as u64,
-        Verdict::Refused(_) => 0,
+        Ok(Some(broken)) => broken.event as u64,
+        _ => 0,
     }
 }
 
 // ---- why a recording is not judged
 
-// A recording is refused with the number of the first cause that applies, in the order 1 to 5, 11, 6, 7; the number is
-// 0 where none does. All are the run's but two of cause 7, the lengths of the answers and of the work space.
-fn refusal(image: &[u8], trace: &[u8], answers: usize, work: usize, lines: usize) -> u32
-    ensures { result ≡ judge_refusal image.now trace.now answers work lines }
+// A recording is refused for the first cause that applies. All are the run's but two of the last, the lengths of the
+// answers and of the work space.
+fn check(
+    image: &[u8],
+    trace: &[u8],
+    answers: usize,
+    work: usize,
+    lines: usize,
+) -> Result<(), Refusal>
+    ensures { number_of result ≡ judge_refusal image.now trace.now answers work lines }
 {
-    let number = bus::refusal(image, trace, trace.len(), lines);
-    if number != ACCEPTED {
-        return number;
-    }
+    bus::check(image, trace, trace.len(), lines)?;
     if answers != trace.len() {
-        return 7;
+        return Err(Refusal::NoRoom);
     }
     if work < image.len() {
-        return 7;
+        return Err(Refusal::NoRoom);
     }
-    ACCEPTED
+    Ok(())
 }
 
 // ---- all devices, and the trace
@@ -714,13 +676,13 @@ fn judge_events(
     work: &mut [u8],
     lines: &mut [LineState],
     n: usize,
-) -> Verdict
+) -> Option<Broken>
     requires { n ≤ length lines.old }
-    ensures { judge_state result work.new lines.new
+    ensures { judge_state (so_far result) work.new lines.new
         ≡ judge_events_up_to trace.now answers.now n (length trace.now)
         (judge_state Accepted work.old lines.old) }
 {
-    let mut verdict = accepted();
+    let mut verdict = None;
     let mut recording = Recording::new(trace, answers);
     while recording.at < trace.len() {
         let k = recording.at;
@@ -743,18 +705,14 @@ pub fn judge(
     answers: &[u8],
     work: &mut [u8],
     lines: &mut [LineState],
-) -> Verdict
+) -> Result<Option<Broken>, Refusal>
     ensures { JudgeLeaves
         (judge_of image.now trace.now answers.now work.old
-        lines.old) result work.new lines.new }
+        lines.old) (told result) work.new lines.new }
 {
-    let number = refusal(image, trace, answers.len(), work.len(), lines.len());
-    let mut verdict = refused(number);
-    if number == ACCEPTED {
-        let n = bus::device_count(image);
-        work[..image.len()].copy_from_slice(image);
-        bus::wait_all(lines, n);
-        verdict = judge_events(trace, answers, work, lines, n);
-    }
-    verdict
+    check(image, trace, answers.len(), work.len(), lines.len())?;
+    let n = bus::device_count(image);
+    work[..image.len()].copy_from_slice(image);
+    bus::wait_all(lines, n);
+    Ok(judge_events(trace, answers, work, lines, n))
 }

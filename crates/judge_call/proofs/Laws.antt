@@ -3,8 +3,7 @@ use Prim.Native.Nat.{ℕ}
 use mathlib.Core.Path.{◌≡◌, sym, ap, ◌∙◌}
 use mathlib.Core.List.{List}
 use Rattle.image.proofs.Counted.{counted-now, counted-not}
-use Rattle.judge.specs.declared.Verdict.{Verdict}
-use Rattle.judge.specs.Judge.{refusal_of, rule_of, broken_at, JudgeOutcome}
+use Rattle.judge.specs.Judge.{Verdict, refusal_of, rule_of, broken_at, JudgeOutcome}
 use Rattle.judge_call.specs.Host.{OwnJudgeLeaves, HostJudgeLeaves}
 
 module _ (left : JudgeOutcome) (rule event : ℕ) (verdict : Verdict) (work : List ℕ) (judges : OwnJudgeLeaves left verdict work)
