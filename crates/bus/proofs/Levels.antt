@@ -197,30 +197,27 @@ scan-is lines n byte =
 -- ---- what the loop of `level` keeps
 
 -- where it goes on there is a device to look at, and where it ends the scan is made
-module _ (lines : List LineState) (n byte served m i : ℕ) (event : Event) (high on : Bool) (of_byte : event ≡ event_of byte)
-    (of_served : served ≡ fewer_of n (length lines)) (of_asked : m ≡ asked_of event served)
-    (in_range : i ≤ up_to_low event (take m lines)) (so_far : high ≡ high_after event lines i)
+module _ (lines : List LineState) (n byte served m i : ℕ) (high on : Bool)
+    (of_served : served ≡ fewer_of n (length lines)) (of_asked : m ≡ asked_of (event_of byte) served)
+    (in_range : i ≤ up_to_low (event_of byte) (take m lines)) (so_far : high ≡ high_after (event_of byte) lines i)
     (test : on ≡ goes_on_at high i m) where
   some_asked : m ≤ length lines
-  some_asked = omega (arith, of_served, of_asked, asked-few event served, fewer-second n (length lines))
+  some_asked = omega (arith, of_served, of_asked, asked-few (event_of byte) served, fewer-second n (length lines))
 
-  goes_so : goes_on_at (high_after event lines i) i m ≡ on
+  goes_so : goes_on_at (high_after (event_of byte) lines i) i m ≡ on
   goes_so = ap (λ (b : Bool). goes_on_at b i m) (sym so_far) ∙ sym test
 
-  pub scan_turn : on ≡ true → (i < up_to_low event (take m lines)) × ((i < m) × (i < length lines))
+  pub scan_turn : on ≡ true → (i < up_to_low (event_of byte) (take m lines)) × ((i < m) × (i < length lines))
   scan_turn e =
-      let small = scan_before event lines m some_asked i in_range (goes_so ∙ e) in
-      let few = end-few event lines m some_asked in
+      let small = scan_before (event_of byte) lines m some_asked i in_range (goes_so ∙ e) in
+      let few = end-few (event_of byte) lines m some_asked in
       (small, (omega (arith, small, few), omega (arith, small, few, some_asked)))
 
-  pub scan_result : on ≡ false → scan_where event high i ≡ scan_on lines n byte
+  pub scan_result : on ≡ false → scan_where (event_of byte) high i ≡ scan_on lines n byte
   scan_result e =
-      let at = scan_there event lines m some_asked i in_range (goes_so ∙ e) in
-      let whole : m ≡ asked_of event (fewer_of n (length lines)) = of_asked ∙ ap (asked_of event) of_served in
-      ap (λ (b : Bool). scan_where event b i) so_far
-      ∙ ap (λ (k : ℕ). scan_where event (high_after event lines k) k) at
-      ∙ ap (λ (k : ℕ). let c : ℕ = up_to_low event (take k lines) in scan_where event (high_after event lines c) c) whole
-      ∙ ap
-      (λ (v : Event). let c : ℕ = up_to_low v (take (asked_of v (fewer_of n (length lines))) lines) in scan_where v (high_after v lines c) c)
-      of_byte
+      let at = scan_there (event_of byte) lines m some_asked i in_range (goes_so ∙ e) in
+      let whole : m ≡ asked_of (event_of byte) (fewer_of n (length lines)) = of_asked ∙ ap (asked_of (event_of byte)) of_served in
+      ap (λ (b : Bool). scan_where (event_of byte) b i) so_far
+      ∙ ap (λ (k : ℕ). scan_where (event_of byte) (high_after (event_of byte) lines k) k) at
+      ∙ ap (λ (k : ℕ). let c : ℕ = up_to_low (event_of byte) (take k lines) in scan_where (event_of byte) (high_after (event_of byte) lines c) c) whole
       ∙ scan-is lines n byte

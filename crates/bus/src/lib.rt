@@ -92,37 +92,37 @@ impl From<u8> for Event {
     }
 }
 
-impl Event {
-    #[tactic(auto, unfolding(crate::specs::Bus::is_slot))]
-    fn is_slot(self) -> bool
-        ensures { result ≡ is_slot self }
-    {
-        matches!(self, Event::Slot(_) | Event::OverdriveSlot(_))
-    }
+// The slots are events 0 and 1 at regular speed, and 4 and 5 at overdrive.
+// As it is: a slot is told by its byte, since a run that makes an `Event` of it in every slot takes a tenth more time.
+#[tactic(auto, unfolding(crate::specs::Bus::event_of, crate::specs::Bus::is_slot))]
+fn is_slot(byte: u8) -> bool
+    ensures { result ≡ is_slot (event_of byte) }
+{
+    matches!(byte, 0 | 1 | 4 | 5)
+}
 
-    // The program pulse has no speed.
-    #[tactic(auto, unfolding(crate::specs::Bus::is_overdrive))]
-    fn is_overdrive(self) -> bool
-        ensures { result ≡ is_overdrive self }
-    {
-        matches!(self, Event::OverdriveSlot(_) | Event::OverdriveReset)
-    }
+// The events at overdrive are 4, 5 and 6. The program pulse has no speed.
+#[tactic(auto, unfolding(crate::specs::Bus::event_of, crate::specs::Bus::is_overdrive))]
+fn is_overdrive(byte: u8) -> bool
+    ensures { result ≡ is_overdrive (event_of byte) }
+{
+    matches!(byte, 4..=6)
+}
 
-    // The master sends 1 in the slot, at either speed.
-    #[tactic(auto, unfolding(crate::specs::Bus::read_slot))]
-    fn is_read_slot(self) -> bool
-        ensures { result ≡ read_slot self }
-    {
-        matches!(self, Event::Slot(true) | Event::OverdriveSlot(true))
-    }
+// The master sends 1 in a slot, an event 1 or 5.
+#[tactic(auto, unfolding(crate::specs::Bus::event_of, crate::specs::Bus::read_slot))]
+fn is_read_slot(byte: u8) -> bool
+    ensures { result ≡ read_slot (event_of byte) }
+{
+    matches!(byte, 1 | 5)
+}
 
-    // The master holds the line low in a slot in which it sends 0.
-    #[tactic(auto, unfolding(crate::specs::Bus::master_high))]
-    fn holds_low(self) -> bool
-        ensures { result ≡ not (master_high self) }
-    {
-        matches!(self, Event::Slot(false) | Event::OverdriveSlot(false))
-    }
+// The master holds the line low in a slot in which it sends 0, an event 0 or 4.
+#[tactic(auto, unfolding(crate::specs::Bus::event_of, crate::specs::Bus::master_high))]
+fn holds_low(byte: u8) -> bool
+    ensures { result ≡ not (master_high (event_of byte)) }
+{
+    matches!(byte, 0 | 4)
 }
 
 // A device hears a slot that comes at its own speed, and an overdrive reset if it is at overdrive. Every device hears a
@@ -141,20 +141,22 @@ fn hears(event: Event, state: LineState) -> bool
 // In an event a device leaves the line high if it does not hear it, or if it answers with a 1: in a slot it answers
 // with what it sends, and in a reset with its presence, a 0. In a regular slot most devices send a 1, so that this is
 // asked first, and of most devices nothing else.
-fn leaves_high(event: Event, state: LineState) -> bool
-    ensures { result ≡ leaves_high event state }
+#[tactic(auto, unfolding(crate::specs::Bus::event_of, crate::specs::Bus::hears, crate::specs::Loops::answers_high, crate::specs::Loops::leaves_high))]
+fn leaves_high(byte: u8, state: LineState) -> bool
+    ensures { result ≡ leaves_high (event_of byte) state }
 {
-    match event {
-        Event::Slot(_) => state.sends_as_is() || state.overdrive,
-        Event::Reset => false,
-        Event::Pulse => true,
-        Event::OverdriveSlot(_) => !state.overdrive | state.sends_as_is(),
-        Event::OverdriveReset => !state.overdrive,
+    match byte {
+        0 | 1 => state.sends_as_is() || state.overdrive,
+        2 => false,
+        4 | 5 => !state.overdrive | state.sends_as_is(),
+        6 => !state.overdrive,
+        _ => true,
     }
 }
 
 // The place of device i is found from its entry alone, so that the cost does not depend on i. A device that the image
 // does not have, or for whose entry or body it has no room, has an empty body and no kind.
+// As it is: `place_in` says a place of every device, which callers take as a device, so that there is no `Option`.
 pub fn place_of(image: &[u8], i: usize) -> Place
     ensures { result ≡ place_in image.now i }
 {
@@ -175,13 +177,14 @@ pub fn place_of(image: &[u8], i: usize) -> Place
 // All of n devices are asked for the level of an event, and none where the master holds the line low: the level then
 // does not depend on what they send.
 #[tactic(auto, unfolding(crate::specs::Loops::asked_of))]
-fn asked(event: Event, n: usize) -> usize
-    ensures { result ≡ asked_of event n }
+fn asked(byte: u8, n: usize) -> usize
+    ensures { result ≡ asked_of (event_of byte) n }
 {
-    if event.holds_low() { 0 } else { n }
+    if holds_low(byte) { 0 } else { n }
 }
 
 // The scan of an event goes on until a device pulls low or the last has been asked.
+// As it is: a must-fail edit (scan_and_its_end_past_the_first_low) holds that `goes_on_at` says where the scan ends.
 #[tactic(auto, unfolding(crate::specs::Loops::goes_on_at))]
 fn looks_on(high: bool, looked: usize, asked: usize) -> bool
     ensures { result ≡ goes_on_at high looked asked }
@@ -192,12 +195,12 @@ fn looks_on(high: bool, looked: usize, asked: usize) -> bool
 // A scan is the level of an event, where `high` tells whether those that were asked leave the line high, together with
 // the number of devices that were looked at for it. They are counted only in a slot in which the master sends 1.
 #[tactic(auto, unfolding(crate::specs::Loops::scan_where))]
-fn scan_of(event: Event, high: bool, looked: usize) -> Scan
-    ensures { result ≡ scan_where event high looked }
+fn scan_of(byte: u8, high: bool, looked: usize) -> Scan
+    ensures { result ≡ scan_where (event_of byte) high looked }
 {
     Scan {
-        level: !event.holds_low() & high,
-        looked: if event.is_read_slot() { looked } else { 0 },
+        level: !holds_low(byte) & high,
+        looked: if is_read_slot(byte) { looked } else { 0 },
     }
 }
 
@@ -272,6 +275,24 @@ fn slot(image: &mut [u8], i: usize, state: LineState, overdrive: bool, level: bo
     SlotTurn { next, copied }
 }
 
+// This is what a reset or a program pulse leaves of device i, which hears it. No slot comes here, so that an event that
+// is not a reset is the pulse. The level has no part in it, and is 1 in the contract.
+fn turn(image: &mut [u8], i: usize, state: LineState, event: Event) -> LineState
+    requires { is_slot event ≡ false }
+    ensures { (result ≡ heard_state_as_is event true (device_in image.old i state))
+        × (image.new ≡ image_with_body image.old (place_in image.old i)
+        (heard_body_as_is event true (device_in image.old i state))) }
+{
+    match event {
+        Event::Reset => heard_reset(image, i, state, false),
+        Event::OverdriveReset => heard_reset(image, i, state, true),
+        _ => heard_pulse(image, i, state),
+    }
+}
+
+// ---- one device, for a search, which only reads the image
+// As it is: these take other methods of a device than `slot`, `heard_pulse` and `turn`: a trait would have both bodies.
+
 // This is device i's line state after a program pulse, where the body is only read.
 #[tactic(auto, using(crate::proofs::Laws::inside_of), unfolding(crate::specs::Loops::body_in))]
 fn read_heard_pulse(image: &[u8], i: usize, state: LineState) -> LineState
@@ -295,21 +316,6 @@ fn read_slot(image: &[u8], i: usize, state: LineState, overdrive: bool, level: b
     state.step_as_is(kind, &image[start..end], level)
 }
 
-// This is what a reset or a program pulse leaves of device i, which hears it. No slot comes here, so that an event that
-// is not a reset is the pulse. The level has no part in it, and is 1 in the contract.
-fn turn(image: &mut [u8], i: usize, state: LineState, event: Event) -> LineState
-    requires { is_slot event ≡ false }
-    ensures { (result ≡ heard_state_as_is event true (device_in image.old i state))
-        × (image.new ≡ image_with_body image.old (place_in image.old i)
-        (heard_body_as_is event true (device_in image.old i state))) }
-{
-    match event {
-        Event::Reset => heard_reset(image, i, state, false),
-        Event::OverdriveReset => heard_reset(image, i, state, true),
-        _ => heard_pulse(image, i, state),
-    }
-}
-
 // This is device i's line state after a reset or a program pulse that it hears, for a search, which only reads the
 // bodies.
 fn read_turn(image: &[u8], i: usize, state: LineState, event: Event) -> LineState
@@ -322,6 +328,8 @@ fn read_turn(image: &[u8], i: usize, state: LineState, event: Event) -> LineStat
         _ => read_heard_pulse(image, i, state),
     }
 }
+
+// ---- how many devices
 
 // Byte 0 of an image is the number of its devices.
 pub fn device_count(image: &[u8]) -> usize
@@ -340,8 +348,8 @@ fn served(lines: &[LineState], n: usize) -> usize
 
 // ---- why a run is refused
 
-// This tells whether a byte of the trace is over 6. The loop looks at every byte, as one that may end early would
-// compile to a test of each byte by itself.
+// This tells whether a byte of the trace is over 6.
+// As it is: the loop looks at every byte, as `any`, which may end early, compiles to a test of each byte by itself.
 #[tactic(auto, using(crate::proofs::Laws::byte_more), unfolding(crate::specs::Refusal::some_byte))]
 fn has_unknown_event(trace: &[u8]) -> bool
     ensures { result ≡ some_byte (λ byte. ltb 6 byte) trace.now }
@@ -374,6 +382,7 @@ fn lacks_first_reset(trace: &[u8]) -> bool
 }
 
 // This tells whether a program pulse, a 3, is in the trace.
+// As it is: the loop looks at every byte, as `contains`, which may end early, tests each byte by itself.
 #[tactic(auto, using(crate::proofs::Laws::byte_more), unfolding(crate::specs::Refusal::some_byte))]
 fn has_pulse(trace: &[u8]) -> bool
     ensures { result ≡ some_byte (λ byte. eqb byte 3) trace.now }
@@ -430,26 +439,27 @@ pub fn check(image: &[u8], trace: &[u8], answers: usize, lines: usize) -> Result
 }
 
 // ---- all devices
+// As it is: image and line states are apart, as the level needs no image, and a search lends it only to be read.
 
 // The level of an event on the first n devices comes with how many of them were looked at, for any line states, which
 // are not tested for their range. The scan stops at the first device that pulls low, as nothing behind it changes the
 // level. A device that waits or does not hear the event is looked at like any other. Only the line states are read, and
 // nothing changes.
+// As it is: any byte is an event, and tests/forms holds the loop, which looks at one device and ends where one is low.
 #[tactic(auto, using(crate::proofs::Levels::scan_turn))]
 pub fn level(lines: &[LineState], n: usize, byte: u8) -> Scan
     ensures { result ≡ scan_on lines.now n byte }
 {
-    let event = Event::from(byte);
     let served = served(lines, n);
-    let asked = asked(event, served);
+    let asked = asked(byte, served);
     let mut high = true;
     let mut looked = 0;
     while looks_on(high, looked, asked) {
         let state = lines[looked];
-        high = leaves_high(event, state);
+        high = leaves_high(byte, state);
         looked += 1;
     }
-    scan_of(event, high, looked)
+    scan_of(byte, high, looked)
 }
 
 // The devices from `from` on have their part in a slot at a level, up to the first whose transfer ends in it, or that a
@@ -479,6 +489,7 @@ fn shift_all(lines: &mut [LineState], from: usize, n: usize, overdrive: bool, le
 // Each of the first n devices has its part in a slot at a level, one after the other, where `overdrive` tells at which
 // speed the slot comes; no device's part depends on another's. The bytes that they copy are added up. Slots have a loop
 // of their own, as nearly all events are slots.
+// As it is: the index goes on to the next device to which more than a shift happens, and not by one.
 fn slot_all(
     image: &mut [u8],
     lines: &mut [LineState],
@@ -527,9 +538,8 @@ fn step_event(image: &mut [u8], lines: &mut [LineState], n: usize, byte: u8, lev
         × (bus_state image.new lines.new
         ≡ turns_up_to byte level n (bus_state image.old lines.old)) }
 {
-    let event = Event::from(byte);
-    if event.is_slot() {
-        let overdrive = event.is_overdrive();
+    if is_slot(byte) {
+        let overdrive = is_overdrive(byte);
         slot_all(image, lines, n, overdrive, level)
     } else {
         turn_all(image, lines, n, byte);
@@ -539,6 +549,7 @@ fn step_event(image: &mut [u8], lines: &mut [LineState], n: usize, byte: u8, lev
 
 // An event on the bus has a level, which each of the first n devices is then given, and the bytes that they copy are
 // added up; image and line states may be any.
+// As it is: any byte is taken, and one over 6 counts as a program pulse.
 pub fn step(image: &mut [u8], lines: &mut [LineState], n: usize, byte: u8) -> EventResult
     ensures { (result ≡ event_result (scan_on lines.old n byte)
         (copied_on n byte (bus_state image.old lines.old)))
@@ -557,6 +568,7 @@ pub fn step(image: &mut [u8], lines: &mut [LineState], n: usize, byte: u8) -> Ev
 
 // This leaves the line states of the first n devices as a slot at a level does, where `overdrive` tells at which speed
 // the slot comes. The image is only read.
+// As it is: the index goes on as that of `slot_all`, whose loop also writes the image and adds bytes up, at one call.
 fn read_slot_all(image: &[u8], lines: &mut [LineState], n: usize, overdrive: bool, level: bool)
     requires { n ≤ length lines.old }
     ensures { lines.new
@@ -588,13 +600,13 @@ fn read_turn_all(image: &[u8], lines: &mut [LineState], n: usize, byte: u8)
 
 // This leaves the line states of the first n devices as an event at a level does, for any image and any line states.
 // The image is only read.
+// As it is: any byte is taken, and one over 6 counts as a program pulse.
 pub fn step_all(image: &[u8], lines: &mut [LineState], n: usize, byte: u8, level: bool)
     ensures { lines.new ≡ turn_states_of image.now lines.old n byte level }
 {
-    let event = Event::from(byte);
     let served = served(lines, n);
-    if event.is_slot() {
-        let overdrive = event.is_overdrive();
+    if is_slot(byte) {
+        let overdrive = is_overdrive(byte);
         read_slot_all(image, lines, served, overdrive, level);
     } else {
         read_turn_all(image, lines, served, byte);

@@ -1,5 +1,5 @@
 use Rattle.std.proofs.Common.{◌≡◌, Bool, ℕ, true, false, length, sym, ap, ◌∙◌, arith}
-use Rattle.bus.specs.Bus.{event_of, is_slot, is_overdrive}
+use Rattle.bus.specs.Bus.{event_of, is_slot}
 use Rattle.bus.specs.Loops.{slot_byte, turn_states_of}
 use Rattle.bus.proofs.Idle.{states-slot, states-other}
 use Rattle.bus.proofs.Laws.{fewer-second}
@@ -12,7 +12,7 @@ read_slot_all-requires c = omega (arith, c.served-served.ensures, fewer-second c
 pub read_turn_all-requires : goal.read_turn_all-requires
 read_turn_all-requires c = (
   omega (arith, c.served-served.ensures, fewer-second c.args.n (length c.args.lines.now)),
-  ap is_slot (sym c.from-event.ensures) ∙ sym c.is_slot.ensures ∙ c.if-is_slot.false,
+  sym c.is_slot.ensures ∙ c.if-is_slot.false,
 )
 
 pub returns-then-is_slot : goal.returns-then-is_slot
@@ -21,8 +21,8 @@ returns-then-is_slot c =
     let t = c.args.level in
     let im = c.args.image.now in
     let ls = c.args.lines.now in
-    let slot : is_slot (event_of v) ≡ true = ap is_slot (sym c.from-event.ensures) ∙ sym c.is_slot.ensures ∙ c.if-is_slot.true in
-    let f = c.is_overdrive-overdrive.ensures ∙ ap is_overdrive c.from-event.ensures in
+    let slot : is_slot (event_of v) ≡ true = sym c.is_slot.ensures ∙ c.if-is_slot.true in
+    let f = c.is_overdrive-overdrive.ensures in
     c.read_slot_all.ensures
     ∙ ap (λ (b : Bool). turn_states_of im ls c.served-served.result (slot_byte b) t) f
     ∙ states-slot v t slot im ls c.served-served.result
@@ -35,7 +35,7 @@ returns-else-is_slot c =
     let t = c.args.level in
     let im = c.args.image.now in
     let ls = c.args.lines.now in
-    let other : is_slot (event_of v) ≡ false = ap is_slot (sym c.from-event.ensures) ∙ sym c.is_slot.ensures ∙ c.if-is_slot.false in
+    let other : is_slot (event_of v) ≡ false = sym c.is_slot.ensures ∙ c.if-is_slot.false in
     c.read_turn_all.ensures
     ∙ states-other v t other im ls c.served-served.result
     ∙ ap (λ (m : ℕ). turn_states_of im ls m v t) c.served-served.ensures
