@@ -449,6 +449,15 @@ other-over zero e = absurd (true≢false e)
 other-over (suc zero) e = absurd (true≢false e)
 other-over (suc (suc byte)) e = omega arith
 
+-- one that is not a reset is the pulse
+pub other-pulse : (event : Event) → is_slot event ≡ false → (event ≡ Reset → ⊥) → (event ≡ OverdriveReset → ⊥) → event ≡ Pulse
+unfolding is_slot
+other-pulse (Slot sent) e h k = absurd (true≢false e)
+other-pulse Reset e h k = absurd (h refl)
+other-pulse Pulse e h k = refl
+other-pulse (OverdriveSlot sent) e h k = absurd (true≢false e)
+other-pulse OverdriveReset e h k = absurd (k refl)
+
 -- ---- a device that stays as it is is not stored again
 
 pub set_same : (lines : List LineState) (i : ℕ) → set lines i (line_at lines i) ≡ lines

@@ -14,13 +14,12 @@ ghost use Rattle.bus.specs.Refusal.{some_byte, bad_trace, no_first_reset, bad_pu
 ghost use Rattle.bus.specs.Refusal.{run_refusal};
 ghost use Rattle.bus.specs.Run.{RunLeaves, run_of, run_told};
 ghost use Rattle.bus.specs.Loops.{place_in, asked_of, goes_on_at, scan_where, turn_state, turn_image, leaves_high};
-ghost use Rattle.bus.specs.Loops.{slot_byte, image_with_body, body_in, moves_in, ends_in, passes_from, shifted_from};
+ghost use Rattle.bus.specs.Loops.{slot_byte, image_with_body, moves_in, ends_in, passes_from, shifted_from};
 ghost use Rattle.bus.specs.Loops.{turn_copied, slot_turn, copied_up_to, copied_on, event_result};
 ghost use Rattle.bus.specs.Loops.{copied_by_events, heard_state_as_is, heard_body_as_is, device_in};
 ghost use Rattle.bus.specs.Loops.{fewer_of, scan_on, step_on};
 ghost use Rattle.bus.specs.Loops.{turn_states_of, bus_state, turns_up_to, filled_up_to, run_state, run_events_up_to};
-ghost use Rattle.device.specs.Device.{waiting_state, reset_at};
-ghost use Rattle.device.specs.Device.{body_after_reset_as_is, state_after_pulse_as_is, body_after_pulse_as_is};
+ghost use Rattle.device.specs.Device.{waiting_state};
 
 use device::LineState;
 use image::{Entry, Refusal};
@@ -204,28 +203,6 @@ fn scan_of(byte: u8, high: bool, looked: usize) -> Scan
     }
 }
 
-// This is what a reset leaves of device i, which hears it.
-#[tactic(auto, using(crate::proofs::Laws::inside_of))]
-fn heard_reset(image: &mut [u8], i: usize, state: LineState, overdrive: bool) -> LineState
-    ensures { (result ≡ reset_at overdrive)
-        × (image.new ≡ image_with_body image.old (place_in image.old i)
-        (body_after_reset_as_is state (body_in image.old i))) }
-{
-    let Place { start, end, .. } = place_of(image, i);
-    state.reset_as_is(&mut image[start..end], overdrive)
-}
-
-// This is what a program pulse leaves of device i.
-#[tactic(auto, using(crate::proofs::Laws::inside_of))]
-fn heard_pulse(image: &mut [u8], i: usize, state: LineState) -> LineState
-    ensures { (result ≡ state_after_pulse_as_is state (body_in image.old i))
-        × (image.new ≡ image_with_body image.old (place_in image.old i)
-        (body_after_pulse_as_is state (body_in image.old i))) }
-{
-    let Place { start, end, .. } = place_of(image, i);
-    state.pulse_as_is(&mut image[start..end])
-}
-
 // A slot does nothing to a device at its own speed that has no transfer under way, and a slot at overdrive nothing to
 // one at regular speed, which does not hear it. To any other it does something: a regular slot makes a device at
 // overdrive wait.
@@ -277,30 +254,24 @@ fn slot(image: &mut [u8], i: usize, state: LineState, overdrive: bool, level: bo
 
 // This is what a reset or a program pulse leaves of device i, which hears it. No slot comes here, so that an event that
 // is not a reset is the pulse. The level has no part in it, and is 1 in the contract.
+#[tactic(auto, using(crate::proofs::Laws::inside_of))]
 fn turn(image: &mut [u8], i: usize, state: LineState, event: Event) -> LineState
     requires { is_slot event ≡ false }
     ensures { (result ≡ heard_state_as_is event true (device_in image.old i state))
         × (image.new ≡ image_with_body image.old (place_in image.old i)
         (heard_body_as_is event true (device_in image.old i state))) }
 {
+    let Place { start, end, .. } = place_of(image, i);
+    let body = &mut image[start..end];
     match event {
-        Event::Reset => heard_reset(image, i, state, false),
-        Event::OverdriveReset => heard_reset(image, i, state, true),
-        _ => heard_pulse(image, i, state),
+        Event::Reset => state.reset_as_is(body, false),
+        Event::OverdriveReset => state.reset_as_is(body, true),
+        _ => state.pulse_as_is(body),
     }
 }
 
 // ---- one device, for a search, which only reads the image
-// As it is: these take other methods of a device than `slot`, `heard_pulse` and `turn`: a trait would have both bodies.
-
-// This is device i's line state after a program pulse, where the body is only read.
-#[tactic(auto, using(crate::proofs::Laws::inside_of), unfolding(crate::specs::Loops::body_in))]
-fn read_heard_pulse(image: &[u8], i: usize, state: LineState) -> LineState
-    ensures { result ≡ state_after_pulse_as_is state (body_in image.now i) }
-{
-    let Place { start, end, .. } = place_of(image, i);
-    state.pulsed_as_is(&image[start..end])
-}
+// As it is: these take other methods of a device than `slot` and `turn` do, so that a trait would have both bodies.
 
 // This is device i's line state after a slot at a level that is the last of its transfer, or that comes at regular
 // speed and finds it at overdrive, for a search, which only reads the bodies.
@@ -318,6 +289,7 @@ fn read_slot(image: &[u8], i: usize, state: LineState, overdrive: bool, level: b
 
 // This is device i's line state after a reset or a program pulse that it hears, for a search, which only reads the
 // bodies.
+#[tactic(auto, using(crate::proofs::Laws::inside_of))]
 fn read_turn(image: &[u8], i: usize, state: LineState, event: Event) -> LineState
     requires { is_slot event ≡ false }
     ensures { result ≡ heard_state_as_is event true (device_in image.now i state) }
@@ -325,7 +297,10 @@ fn read_turn(image: &[u8], i: usize, state: LineState, event: Event) -> LineStat
     match event {
         Event::Reset => LineState::at_reset(false),
         Event::OverdriveReset => LineState::at_reset(true),
-        _ => read_heard_pulse(image, i, state),
+        _ => {
+            let Place { start, end, .. } = place_of(image, i);
+            state.pulsed_as_is(&image[start..end])
+        }
     }
 }
 
