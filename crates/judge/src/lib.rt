@@ -9,7 +9,7 @@
 #![tactic(auto)]
 
 ghost use Rattle.std.specs.Prelude.{◌≡◌, ◌≤◌, ◌<◌, ◌+◌, ◌-◌, true, false, cond, ◌||◌, length, eqb};
-ghost use Rattle.image.specs.Refusal.{refusal_number, number_of};
+ghost use Rattle.image.specs.Refusal.{number_of};
 ghost use Rattle.sram.specs.Sram.{target_offset};
 ghost use Rattle.device.specs.Device.{reset_at};
 ghost use Rattle.bus.specs.Bus.{device_with};
@@ -22,7 +22,7 @@ ghost use Rattle.judge.specs.Loops.{line_next, mark_by, mark_of, wanted_bytes, w
 ghost use Rattle.judge.specs.Loops.{shown_from};
 ghost use Rattle.judge.specs.Loops.{read_shown, part_so, part_by, part_at, part_over, overdrive_before, begins_part};
 ghost use Rattle.judge.specs.Loops.{back_by, back_at, careful_at};
-ghost use Rattle.judge.specs.Loops.{pattern_accepted, careless_at, seen_with, at_memory, seen_up_to, nothing_seen};
+ghost use Rattle.judge.specs.Loops.{pattern_accepted, careless_at, seen_with, at_memory, seen_up_to};
 ghost use Rattle.judge.specs.Loops.{verdict_here, verdict_kept, verdict_next, judge_state};
 ghost use Rattle.judge.specs.Loops.{judge_events_up_to, still_looked_at};
 
@@ -71,7 +71,7 @@ enum Mark {
 
 // A part of the trace has `wrote` if it has a write, and `shown` if a read after the last of its writes, or any read
 // where it has none, showed what it had to.
-#[derive(Clone, Copy)]
+#[derive(Clone, Copy, Default)]
 struct Part {
     wrote: bool,
     shown: bool,
@@ -91,7 +91,7 @@ struct Back {
 
 // Of the devices that were looked at in an event, so many are at the memory command; where `completed` is true one of
 // them completes a write or copy command in it, and where `careless` is true one accepts a copy that was not read back.
-#[derive(Clone, Copy)]
+#[derive(Clone, Copy, Default)]
 struct Seen {
     commands: usize,
     completed: bool,
@@ -111,11 +111,6 @@ const READ_SCRATCHPAD: u8 = 0xAA;
 const WRITE_SCRATCHPAD: u8 = 0x0F;
 
 const COPY_SCRATCHPAD: u8 = 0x55;
-
-// This event is the regular reset.
-const RESET: u8 = 2;
-
-const OVERDRIVE_RESET: u8 = 6;
 
 // TA1, TA2 and E/S have so many bits.
 const REGISTER_BITS: usize = 24;
@@ -158,6 +153,7 @@ fn is_passed_at(byte: u8, overdrive: bool) -> bool
 
 // A slot at the device's own speed is one step of it. Of the others a regular one makes it wait, and one at overdrive
 // leaves it as it is.
+#[tactic(auto, unfolding(crate::specs::Loops::after_slot_at))]
 fn after_slot(state: LineState, kind: Kind, body: &[u8], overdrive: bool, level: bool) -> LineState
     ensures { result ≡ after_slot_at state kind body.now overdrive level }
 {
@@ -194,6 +190,7 @@ fn after_event(state: LineState, kind: Kind, body: &[u8], event: Event, level: b
 
 // The event is marked if it is the last slot of a read's command or of a write's address; `value` is the byte that was
 // received up to it.
+#[tactic(auto, unfolding(crate::specs::Loops::mark_by))]
 fn mark_by(doing: Doing, last: bool, value: u8) -> Mark
     ensures { result ≡ mark_by doing last value }
 {
@@ -204,6 +201,7 @@ fn mark_by(doing: Doing, last: bool, value: u8) -> Mark
     }
 }
 
+#[tactic(auto, unfolding(crate::specs::Loops::mark_of))]
 fn mark_of(state: LineState, byte: u8, level: bool) -> Mark
     ensures { result ≡ mark_of state byte level }
 {
@@ -222,6 +220,7 @@ fn first_offset(body: &[u8]) -> u8
 }
 
 // So many bytes lie from T4:T0 through the ending offset.
+#[tactic(auto, unfolding(crate::specs::Loops::wanted_bytes))]
 fn wanted_bytes(body: &[u8]) -> u8
     ensures { (result ≡ wanted_bytes body.now) × (result ≤ 32) }
 {
@@ -231,6 +230,7 @@ fn wanted_bytes(body: &[u8]) -> u8
 
 // A read is to show the registers, then the bytes from T4:T0 through the ending offset. This is bit `at` of them, by
 // its value in the body as it is at the copy.
+#[tactic(auto, unfolding(crate::specs::Loops::wanted_bit))]
 fn wanted_bit(body: &[u8], at: usize) -> bool
     requires { at < 1024 }
     ensures { result ≡ wanted_bit body.now at }
@@ -238,11 +238,12 @@ fn wanted_bit(body: &[u8], at: usize) -> bool
     if at < REGISTER_BITS {
         return bits::bit_at(body, 8 * kind::TA1 + at);
     }
-    let place = 8 * (kind::SCRATCHPAD + bits::wide(first_offset(body)));
+    let place = 8 * (kind::SCRATCHPAD + usize::from(first_offset(body)));
     bits::bit_at(body, place + (at - REGISTER_BITS))
 }
 
 // A slot that the device hears shows one bit, and an event that it passes over shows none.
+#[tactic(auto, unfolding(crate::specs::Loops::bits_in))]
 fn bits_in(byte: u8, overdrive: bool) -> usize
     ensures { (result ≡ bits_in byte overdrive) × (result ≤ 1) }
 {
@@ -251,18 +252,10 @@ fn bits_in(byte: u8, overdrive: bool) -> usize
 
 // ---- the walk back from a copy
 
-fn empty_part() -> Part
-    ensures { result ≡ part_so false false }
-{
-    Part {
-        wrote: false,
-        shown: false,
-    }
-}
-
 // With `overdrive` the device is known to be at overdrive after the event of this byte; this tells whether it is known
 // to have been so before. An event that a device at regular speed passes over leaves it at regular speed, so that one
 // that is at overdrive after it was so before. Of any other event nothing is taken as known.
+#[tactic(auto, unfolding(crate::specs::Loops::overdrive_before))]
 fn is_overdrive_before(byte: u8, overdrive: bool) -> bool
     ensures { result ≡ overdrive_before byte overdrive }
 {
@@ -274,11 +267,16 @@ fn is_overdrive_before(byte: u8, overdrive: bool) -> bool
 fn begins_part(byte: u8, overdrive: bool) -> bool
     ensures { result ≡ begins_part byte overdrive }
 {
-    (byte == RESET) | ((byte == OVERDRIVE_RESET) & overdrive)
+    match Event::from(byte) {
+        Event::Reset => true,
+        Event::OverdriveReset => overdrive,
+        _ => false,
+    }
 }
 
 // The part that begins with the reset at event j, and ends where the walk has come to, has these writes and reads. With
 // `overdrive` the device is known to have been at overdrive before the reset.
+#[tactic(auto, unfolding(crate::specs::Loops::back_by))]
 fn back_by(j: usize, back: Back, overdrive: bool, part: Part) -> Back
     ensures { result ≡ back_by j back overdrive part }
 {
@@ -294,6 +292,7 @@ fn back_by(j: usize, back: Back, overdrive: bool, part: Part) -> Back
 
 impl<'a> Followed<'a> {
     // This is the line state after event k.
+    #[tactic(auto, unfolding(crate::specs::Loops::line_next))]
     fn line_next(self, k: usize, state: LineState) -> LineState
         ensures { result ≡ line_next self.entry.recording.trace.now
             self.entry.recording.answers.now self.entry.kind self.entry.body.now k state }
@@ -304,6 +303,7 @@ impl<'a> Followed<'a> {
 
     // A read of the device, which is at overdrive or not, goes on in event k if this is a slot that it hears and that
     // shows bit `at`, or if it passes over it.
+    #[tactic(auto, unfolding(crate::specs::Loops::goes_on_at))]
     fn reads_on(self, overdrive: bool, k: usize, at: usize) -> bool
         requires { at < 1024 }
         ensures { result ≡ goes_on_at self.entry.recording.trace.now
@@ -336,15 +336,17 @@ impl<'a> Followed<'a> {
     }
 
     // A read whose command completed in the event before k showed all that is to be copied.
+    #[tactic(auto, unfolding(crate::specs::Loops::read_shown))]
     fn read_shown(self, overdrive: bool, end: usize, k: usize) -> bool
         ensures { result ≡ read_shown self.entry.recording.trace.now
             self.entry.recording.answers.now self.entry.body.now overdrive end k }
     {
-        let count = REGISTER_BITS + 8 * bits::wide(wanted_bytes(self.body));
+        let count = REGISTER_BITS + 8 * usize::from(wanted_bytes(self.body));
         self.bits_shown(overdrive, end, k, count)
     }
 
     // A write leaves nothing of what was shown before it.
+    #[tactic(auto, unfolding(crate::specs::Loops::part_by))]
     fn part_by(self, overdrive: bool, end: usize, k: usize, part: Part, mark: Mark) -> Part
         requires { k < 18446744073709551615 }
         ensures { result ≡ part_by self.entry.recording.trace.now
@@ -367,6 +369,7 @@ impl<'a> Followed<'a> {
     }
 
     // Event k, which finds the device in a line state, leaves this part.
+    #[tactic(auto, unfolding(crate::specs::Loops::part_at))]
     fn part_at(self, end: usize, k: usize, state: LineState, part: Part) -> Part
         requires { k < 18446744073709551615 }
         ensures { result ≡ part_at self.entry.recording.trace.now
@@ -384,7 +387,7 @@ impl<'a> Followed<'a> {
             (reset_at overdrive) (part_so false false) from (end - from) }
     {
         let mut state = LineState::at_reset(overdrive);
-        let mut part = empty_part();
+        let mut part = Part::default();
         for k in from..end {
             part = self.part_at(end, k, state, part);
             state = self.line_next(k, state);
@@ -393,18 +396,23 @@ impl<'a> Followed<'a> {
     }
 
     // The walk back looks at event j. A part begins at the speed of its reset.
+    #[tactic(auto, unfolding(crate::specs::Loops::back_at, crate::specs::Loops::back_over))]
     fn back_at(self, j: usize, back: Back) -> Back
         requires { j < 18446744073709551615 }
         ensures { result ≡ back_at self.entry.recording.trace.now
             self.entry.recording.answers.now self.entry.kind self.entry.body.now j back }
     {
         let byte = self.recording.event(j);
-        let overdrive = is_overdrive_before(byte, back.overdrive);
+        let before = is_overdrive_before(byte, back.overdrive);
         if begins_part(byte, back.overdrive) {
-            let part = self.part_in(byte == OVERDRIVE_RESET, j + 1, back.end);
-            back_by(j, back, overdrive, part)
+            let overdrive = matches!(Event::from(byte), Event::OverdriveReset);
+            let part = self.part_in(overdrive, j + 1, back.end);
+            back_by(j, back, before, part)
         } else {
-            Back { overdrive, ..back }
+            Back {
+                overdrive: before,
+                ..back
+            }
         }
     }
 
@@ -439,13 +447,11 @@ impl<'a> Followed<'a> {
 fn is_accepted(at: u8, same: bool, value: u8, body: &[u8]) -> bool
     ensures { result ≡ pattern_accepted at same value body.now }
 {
-    if at < 2 {
-        return false;
-    }
-    same & (bits::byte_at(body, kind::TA1 + bits::wide(at)) == value)
+    (2 <= at) & same & (bits::byte_at(body, kind::TA1 + usize::from(at)) == value)
 }
 
 // Device i, which is at overdrive or not, accepts a copy in the event at the reader's place that was not read back.
+#[tactic(auto, unfolding(crate::specs::Loops::careless_at))]
 fn is_careless(
     recording: Recording,
     image: &[u8],
@@ -477,6 +483,7 @@ fn is_write_or_copy(value: u8) -> bool
 // In the event at the reader's place device i is looked at, which is in a line state before it. The rules look only at
 // the last slot of a transfer, which the device has to hear, but every device at the memory command counts, whatever
 // its speed.
+#[tactic(auto, unfolding(crate::specs::Loops::seen_with, crate::specs::Loops::seen_by))]
 fn seen_with(recording: Recording, image: &[u8], i: usize, state: LineState, seen: Seen) -> Seen
     requires { seen.commands < 18446744073709551615 }
     ensures { result ≡ seen_with recording.entry.trace.now recording.entry.answers.now image.now
@@ -504,20 +511,11 @@ fn seen_with(recording: Recording, image: &[u8], i: usize, state: LineState, see
 
 // The rules look only at devices that are past the ROM stage. In most events most devices are not, and this test alone
 // passes over them, without a copy of what was seen so far.
+#[tactic(auto, unfolding(crate::specs::Loops::at_memory))]
 fn is_at_memory(state: LineState) -> bool
     ensures { result ≡ at_memory state.transfer.stage }
 {
     matches!(state.transfer.stage, Stage::Memory(_))
-}
-
-fn nothing_seen() -> Seen
-    ensures { result ≡ nothing_seen }
-{
-    Seen {
-        commands: 0,
-        completed: false,
-        careless: false,
-    }
 }
 
 // ---- the verdict so far
@@ -658,7 +656,7 @@ fn look(recording: Recording, image: &[u8], lines: &[LineState], n: usize) -> Se
     ensures { result ≡ seen_up_to recording.entry.trace.now recording.entry.answers.now image.now
         lines.now recording.entry.at n }
 {
-    let mut seen = nothing_seen();
+    let mut seen = Seen::default();
     for (i, state) in lines[..n].iter().enumerate() {
         if is_at_memory(*state) {
             seen = seen_with(recording, image, i, *state, seen);

@@ -1,4 +1,5 @@
 use Rattle.std.proofs.Common.{sym, ◌∙◌, arith}
+use Rattle.std.proofs.lemmas.Grind.{common_steps}
 use Rattle.std.proofs.lemmas.List.{length-take-le}
 use Rattle.judge.specs.Loops.{seen_up_to}
 use Rattle.judge.proofs.Turns.{look_room, look_done, look_rom}
@@ -7,7 +8,7 @@ use Rattle.judge.proofs.look.Goals.{then-is_at_memory, else-is_at_memory}
 
 pub loop-i-init : goal.loop-i-init
 unfolding seen_up_to
-loop-i-init c = c.nothing_seen-seen.ensures
+loop-i-init c = grind (arith, common_steps)
 
 pub seen_with-seen-requires : goal.seen_with-seen-requires
 seen_with-seen-requires c =
