@@ -2,11 +2,11 @@
 use Prim.Native.Nat.{ℕ, zero, suc, ◌+◌, ◌-◌, ◌*◌, ◌^◌, ◌<◌, ◌≤◌}
 use Rattle.std.proofs.Common.{min}
 use mathlib.Core.Path.{◌≡◌, refl, sym, ap, subst, ◌∙◌}
-use mathlib.Core.Bool.{Bool, true, false, not, cond, ◌&&◌, ◌||◌, or_assoc, or-false, true≢false}
+use mathlib.Core.Bool.{Bool, true, false, not, cond, ◌&&◌, ◌||◌, or_assoc, true≢false}
 use mathlib.Core.List.{List, [], ◌∷◌, ◌++◌}
 use native.Mathlib.Omega.{arith}
 use native.Mathlib.Numerals.{add-one}
-use lib.ListN.{length, get_or, take, drop, drop_of_length-le, length-set, length-append, length-drop}
+use lib.ListN.{length, get_or, take, drop, length-set, length-append, length-drop}
 use lib.Seq.{drop-cons, length-take-le}
 use lib.Dec.{eqb, ltb, leb, lit<}
 use borrow.Author.Tests.{leb-true, ltb-true, ltb-false, le-ltb}
@@ -69,16 +69,7 @@ byte_more p trace k found h inv =
     let next : some_byte p (drop k trace) ≡ (p (get_or trace k 0) || some_byte p (drop (k + 1) trace)) = rw add-one (ap (some_byte p) (drop-cons trace k 0 h)) in
     or_assoc found (p (get_or trace k 0)) (some_byte p (drop (k + 1) trace)) ∙ ap (λ (b : Bool). found || b) (sym next) ∙ inv
 
-pub byte-end : (p : ℕ → Bool) (trace : List ℕ) (k : ℕ) (found : Bool) → length trace ≤ k → (found || some_byte p (drop k trace)) ≡ some_byte p trace → found ≡ some_byte p trace
-unfolding some_byte
-byte-end p trace k found h inv = sym (or-false found) ∙ ap (λ (l : List ℕ). found || some_byte p l) (sym (drop_of_length-le trace h)) ∙ inv
-
 -- ---- the first event of a trace
-
-pub no-first-event : (trace : List ℕ) → length trace ≡ 0 → no_first_reset trace ≡ false
-unfolding no_first_reset
-no-first-event [] e = refl
-no-first-event (byte ∷ trace) e = absurd (omega arith)
 
 pub first-event : (trace : List ℕ) → 0 < length trace → no_first_reset trace ≡ not (eqb (get_or trace 0 0) 2)
 unfolding no_first_reset

@@ -316,7 +316,8 @@ pub fn device_count(image: &[u8]) -> usize
 // Of n devices, only as many are served as line states are lent.
 #[tactic(auto, using(std::proofs::lemmas::Bool::Decides::nat_tests), unfolding(crate::specs::Loops::fewer_of))]
 fn served(lines: &[LineState], n: usize) -> usize
-    ensures { result ≡ fewer_of n (length lines.now) }
+    ensures fewer { result ≡ fewer_of n (length lines.now) }
+    ensures lent { result ≤ length lines.now }
 {
     n.min(lines.len())
 }

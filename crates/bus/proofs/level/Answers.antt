@@ -13,7 +13,7 @@ loop-high-init c = record { in_range = omega arith; so_far = refl }
 pub loop-high-preserved : goal.loop-high-preserved
 unfolding high_after
 loop-high-preserved c =
-    let h = scan_turn _ _ _ _ _ _ _ _ c.served-served.ensures c.asked-asked.ensures c.loop-high.invariant.in_range
+    let h = scan_turn _ _ _ _ _ _ _ _ c.served-served.ensures.fewer c.asked-asked.ensures c.loop-high.invariant.in_range
     c.loop-high.invariant.so_far c.looks_on.ensures c.loop-high-test.true in
     record {
       in_range = omega (arith, h.0);
@@ -24,5 +24,5 @@ loop-high-preserved c =
 pub returns : goal.returns
 returns c =
     c.scan_of.ensures
-    ∙ scan_result _ _ _ _ _ _ _ _ c.served-served.ensures c.asked-asked.ensures c.loop-high.invariant.in_range
+    ∙ scan_result _ _ _ _ _ _ _ _ c.served-served.ensures.fewer c.asked-asked.ensures c.loop-high.invariant.in_range
     c.loop-high.invariant.so_far c.looks_on.ensures c.loop-high-test.false

@@ -1,11 +1,7 @@
-use Rattle.std.proofs.Common.{◌≡◌, Bool, ℕ, length, ap, ◌∙◌, arith}
+use Rattle.std.proofs.Common.{◌≡◌, Bool, ℕ, length, ap, ◌∙◌}
 use Rattle.bus.specs.declared.Scan.{Scan}
 use Rattle.bus.specs.Loops.{level_on, scan_on, copied_on, step_on, event_result, BusState, bus_state, turns_up_to, copied_up_to, fewer_of}
-use Rattle.bus.proofs.Laws.{fewer-second}
 use Rattle.bus.proofs.step.Goals as goal
-
-pub step_event-copied-requires : goal.step_event-copied-requires
-step_event-copied-requires c = omega (arith, c.served-served.ensures, fewer-second c.args.n (length c.args.lines.now))
 
 pub returns : goal.returns
 unfolding step_on scan_on copied_on
@@ -14,7 +10,7 @@ returns c =
     let n = c.args.n in
     let ls = c.args.lines.now in
     let s = bus_state c.args.image.now ls in
-    let served : c.served-served.result ≡ fewer_of n (length ls) = c.served-served.ensures in
+    let served : c.served-served.result ≡ fewer_of n (length ls) = c.served-served.ensures.fewer in
     let level : c.level-level.result.level ≡ level_on ls n v = ap (λ (u : Scan). u.level) c.level-level.ensures in
     let copied : c.step_event-copied.result ≡ copied_on n v s =
     c.step_event-copied.ensures.0
