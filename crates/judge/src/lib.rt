@@ -681,6 +681,7 @@ fn judge_events(
         (judge_state Accepted work.old lines.old) }
 {
     let mut verdict = None;
+    // As it is: tests/forms holds that the place of a reader that moves tells the turns, so that this is no `for`.
     let mut recording = Recording::new(trace, answers);
     while recording.at < trace.len() {
         let k = recording.at;
