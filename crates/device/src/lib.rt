@@ -383,7 +383,7 @@ impl LineState {
 
     // ---- any line state
 
-    // As it is: each of these is another method after `or_waiting`, and one function for all would be given that method.
+    // As it is: each of these is another method after `or_waiting`, which one function for all would have to be given.
 
     // A line state is in range if it is one that the device can be in.
     #[tactic(auto, unfolding(crate::specs::Device::line_state_in_range))]
