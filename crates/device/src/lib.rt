@@ -383,6 +383,8 @@ impl LineState {
 
     // ---- any line state
 
+    // As it is: each of these is another method after `or_waiting`, which one function for all would have to be given.
+
     // A line state is in range if it is one that the device can be in.
     #[tactic(auto, unfolding(crate::specs::Device::line_state_in_range))]
     pub fn in_range(self, kind: Kind, body: &[u8]) -> bool
