@@ -1,4 +1,4 @@
-use Rattle.std.proofs.Common.{◌≡◌, ◌<◌, ℕ, true, List, length, refl, sym, ap, ◌∙◌, arith}
+use Rattle.std.proofs.Common.{◌<◌, ℕ, List, length, refl, sym, ap, ◌∙◌, arith}
 use Rattle.device.specs.declared.LineState.{LineState}
 use Rattle.bus.specs.Loops.{bus_state, turns_up_to}
 use Rattle.bus.proofs.Loops.{turn_heard, turn_unheard}
@@ -28,8 +28,3 @@ loop-i-preserved c =
           ∙ ap (λ (xs : List ℕ). bus_state xs ls) w.image-is
           ∙ turn_unheard v c.requires.1 i s im ls inv _ within c.from-event.result c.from-event.ensures (sym c.hears.ensures ∙ w.if-hears.false)
     ]
-
-pub returns : goal.returns
-returns c =
-    let all : c.loop-i.i ≡ c.args.n = omega arith in
-    c.loop-i.invariant ∙ ap (λ (k : ℕ). turns_up_to c.args.byte true k (bus_state c.args.image.now c.args.lines.now)) all

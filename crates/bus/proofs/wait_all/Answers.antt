@@ -6,10 +6,6 @@ use Rattle.bus.specs.Loops.{filled_up_to}
 use Rattle.bus.proofs.Shown.{filled_is}
 use Rattle.bus.proofs.wait_all.Goals as goal
 
-pub slice_bounds-fill-end-2 : goal.slice_bounds-fill-end-2
-slice_bounds-fill-end-2 c =
-    sym (length-take-le c.served-served.result c.args.lines.now c.served-served.ensures.lent)
-
 pub returns : goal.returns
 returns c =
     let ls = c.args.lines.now in
