@@ -116,17 +116,14 @@ def conversions(sources):
 
 
 def groups(sources):
-    """Parameters that travel together: pairs of one name and type that three or more functions have."""
-    together = defaultdict(list)
-    for f in functions(sources):
-        own = sorted({(n, t.strip()) for n, t in f.parameters if n != "self"})
-        for i, one in enumerate(own):
-            for other in own[:i]:
-                together[other, one].append(f)
-    for pair, held in sorted(together.items()):
-        if len(held) >= 3:
-            names = ", ".join(f"{n}: {t}" for n, t in pair)
-            yield f"{names}: {len(held)} functions, from {held[0].place} on"
+    """Parameters that travel together: three or more of one name and type that three or more functions have."""
+    own = [({f"{n}: {t.strip()}" for n, t in f.parameters if n != "self"}, f) for f in functions(sources)]
+    shared = {frozenset(a & b) for i, (a, _) in enumerate(own) for b, _ in own[:i] if len(a & b) >= 3}
+    held = {group: [f for names, f in own if group <= names] for group in shared}
+    wide = [group for group in held if len(held[group]) >= 3]
+    for group in sorted(wide, key=sorted):
+        if not any(group < other for other in wide):
+            yield f"{', '.join(sorted(group))}: {len(held[group])} functions, from {held[group][0].place} on"
 
 
 def facts(sources):
@@ -170,7 +167,7 @@ POINTS = [
     ("2", "functions whose bodies differ in few words", "src", twins),
     ("3", "loops that are no `for`", "src", loops),
     ("4", "conversions and comparisons written out", "src", conversions),
-    ("5", "pairs of parameters that three or more functions have", "src", groups),
+    ("5", "three parameters or more that three or more functions have", "src", groups),
     ("5", "facts in the clauses of three or more functions", "src", facts),
     ("6", "slices with a count beside them", "src", counted),
     ("7", "tables of functions, switches on a step", "src", steps),

@@ -416,6 +416,7 @@ pub fn check(image: &[u8], trace: &[u8], answers: usize, lines: usize) -> Result
 
 // ---- all devices
 // As it is: image and line states are apart, as the level needs no image, and a search lends it only to be read.
+// As it is: n stands beside the slice, as `turns_up_to` says what the first n of all lent line states become.
 
 // The level of an event on the first n devices comes with how many of them were looked at, for any line states, which
 // are not tested for their range. The scan stops at the first device that pulls low, as nothing behind it changes the
@@ -600,6 +601,7 @@ pub fn wait_all(lines: &mut [LineState], n: usize)
 
 // Each event of a trace on n devices gives its level as an answer, and then to each device. The bytes copied are added
 // up over the whole trace.
+// As it is: image, trace, answers and line states are arguments of their own, as the C interface lends each by itself.
 fn run_events(
     image: &mut [u8],
     trace: &[u8],
