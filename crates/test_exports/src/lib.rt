@@ -33,6 +33,7 @@ const MOST_DEVICES: usize = 64;
 const MOST_BYTES: usize = 65535;
 
 // The numbers of the master's ends are document 01's.
+// As it is: only the tests' C program is told them, and `End` is another crate's, which can have no `From` here.
 #[tactic(auto, unfolding(master::specs::Master::end_number))]
 fn end_number(end: End) -> u32
     ensures { result ≡ end_number end }
@@ -47,6 +48,7 @@ fn end_number(end: End) -> u32
 
 // The number of an outcome is that of the master's end, or 7 where there is too little room, or 255 where the master
 // would go on.
+// As it is: only the tests' C program is told it, and `Outcome` is another crate's, which can have no `From` here.
 #[tactic(auto, unfolding(crate::specs::Outcome::outcome_byte))]
 fn outcome_number(outcome: Outcome) -> u32
     ensures { result ≡ outcome_byte outcome }
