@@ -31,6 +31,7 @@ pub enum End {
 }
 
 // A step answers with an event to send, or with the end.
+// As it is: an end is no error, as `Done` is the search that found all, so a `Result` of event and end would mislead.
 #[derive(Clone, Copy)]
 pub enum Answer {
     // The next event is 0 for a write-zero slot, 1 for a write-one slot (also the read slot), or 2 for a reset.
@@ -177,6 +178,7 @@ impl Master {
     }
 
     // A master is in range if a fresh one can come to its numbers.
+    // As it is: with one arm for the three stages of a bit a step looks at its stage twice, and a search is slower.
     #[tactic(auto, unfolding(crate::specs::Master::master_in_range, crate::specs::Master::stage_in_range))]
     fn in_range(self) -> bool
         ensures { result ≡ master_in_range self }
@@ -185,8 +187,9 @@ impl Master {
             Stage::Fresh | Stage::Ended(_) => true,
             Stage::Reset => self.passes < MOST_PASSES,
             Stage::Command { at } => at < COMMAND_BITS && self.passes < MOST_PASSES,
-            Stage::FirstRead { at } | Stage::SecondRead { at, .. } | Stage::Direction { at, .. } =>
-                { at < CODE_BITS && self.passes < MOST_PASSES }
+            Stage::FirstRead { at } => at < CODE_BITS && self.passes < MOST_PASSES,
+            Stage::SecondRead { at, .. } => at < CODE_BITS && self.passes < MOST_PASSES,
+            Stage::Direction { at, .. } => at < CODE_BITS && self.passes < MOST_PASSES,
         }
     }
 
@@ -204,13 +207,13 @@ impl Master {
     fn after_reset(self, level: bool) -> Master
         ensures { result ≡ master_after_reset self level }
     {
-        self.with_stage(if !level {
-            Stage::Command { at: 0 }
+        if !level {
+            self.with_stage(Stage::Command { at: 0 })
         } else if self.passes == 0 {
-            Stage::Ended(End::Done)
+            self.with_stage(Stage::Ended(End::Done))
         } else {
-            Stage::Ended(End::NoDevice)
-        })
+            self.with_stage(Stage::Ended(End::NoDevice))
+        }
     }
 
     // After a bit of the command comes the next one, or the first read slot of bit 0.
@@ -218,11 +221,11 @@ impl Master {
     fn after_command(self, at: u8) -> Master
         ensures { result ≡ master_after_command self at }
     {
-        self.with_stage(if at < COMMAND_BITS - 1 {
-            Stage::Command { at: at + 1 }
+        if at < COMMAND_BITS - 1 {
+            self.with_stage(Stage::Command { at: at + 1 })
         } else {
-            Stage::FirstRead { at: 0 }
-        })
+            self.with_stage(Stage::FirstRead { at: 0 })
+        }
     }
 
     // A direction is sent, and becomes the bit of this pass's code.
@@ -241,21 +244,21 @@ impl Master {
     }
 
     // The levels of both read slots decide the direction; at 1,1 no device is left on the bus that answers.
+    // As it is: with a match on both levels the compiler keeps the master in memory, and a search is slower.
     #[tactic(auto, unfolding(crate::specs::Master::master_after_reads, crate::specs::Master::open_after))]
     fn after_reads(self, at: u8, first: bool, second: bool) -> Master
         ensures { result ≡ master_after_reads self at first second }
     {
-        match (first, second) {
-            (true, true) => self.with_stage(Stage::Ended(End::NoDevice)),
-            (true, false) => self.send_direction(at, true, self.opened),
-            (false, true) => self.send_direction(at, false, self.opened),
-            (false, false) => {
-                if at_discrepancy(self.last, self.previous, at) {
-                    self.send_direction(at, true, self.opened)
-                } else {
-                    self.send_direction(at, false, Some(at))
-                }
-            }
+        if first && second {
+            self.with_stage(Stage::Ended(End::NoDevice))
+        } else if first {
+            self.send_direction(at, true, self.opened)
+        } else if second {
+            self.send_direction(at, false, self.opened)
+        } else if at_discrepancy(self.last, self.previous, at) {
+            self.send_direction(at, true, self.opened)
+        } else {
+            self.send_direction(at, false, Some(at))
         }
     }
 
@@ -282,7 +285,9 @@ impl Master {
         requires { self.passes < most_passes }
         ensures { result ≡ pass_end self }
     {
-        if !bits::registration_check(&self.code) {
+        // As it is: with the field itself lent the compiler keeps the master in memory, and a search is slower.
+        let code = self.code;
+        if !bits::registration_check(&code) {
             return self.with_stage(Stage::Ended(End::WrongCrc));
         }
         self.completed(after_pass(self.opened, self.passes + 1))

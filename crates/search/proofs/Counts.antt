@@ -21,9 +21,9 @@ by-one : (b : Bool) (n : ℕ) → cond b 1 0 + n ≡ cond b (1 + n) n
 by-one true n = refl
 by-one false n = zero-add n
 
-pub resets-counted : (t : List ℕ) → resets_in t ≡ count_by (λ x. eqb x 2) t
+pub resets_counted : (t : List ℕ) → resets_in t ≡ count_by (λ x. eqb x 2) t
 unfolding resets_in is_reset
-resets-counted t = is_count_by resets_in (λ x. eqb x 2) refl (λ x xs. by-one (eqb x 2) (resets_in xs)) t
+resets_counted t = is_count_by resets_in (λ x. eqb x 2) refl (λ x xs. by-one (eqb x 2) (resets_in xs)) t
 
 pub slots_counted : (t : List ℕ) → slots_in t ≡ count_by (λ x. ltb x 2) t
 unfolding slots_in is_slot

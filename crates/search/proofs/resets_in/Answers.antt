@@ -1,10 +1,7 @@
-use Rattle.std.proofs.Common.{◌≡◌, eqb, sym, ◌∙◌}
-use Rattle.std.specs.List.{count_by}
-use borrow.Author.Rules.{rules}
-use Rattle.search.proofs.Counts.{resets-counted}
+use Rattle.std.proofs.Common.{◌∙◌, sym}
+use Rattle.std.proofs.lemmas.List.{take_all}
+use Rattle.search.proofs.Counts.{resets_counted}
 use Rattle.search.proofs.resets_in.Goals as goal
 
 pub returns : goal.returns
-returns c =
-    let n : c.count.result ≡ count_by (λ x. eqb x 2) c.args.trace.now = search rules in
-    n ∙ sym (resets-counted c.args.trace.now)
+returns c = rw (take_all _ c.args.trace.now c.loop-event-test.false) at c.loop-event.invariant ∙ sym (resets_counted c.args.trace.now)

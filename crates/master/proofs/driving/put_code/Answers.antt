@@ -1,6 +1,5 @@
-use Rattle.std.proofs.Common.{◌≡◌, ◌<◌, ◌≤◌, ◌+◌, ◌*◌, ◌∙◌, length, sym, ap, arith}
+use Rattle.std.proofs.Common.{◌≡◌, ◌<◌, ◌≤◌, ◌∙◌, length, sym, arith}
 use borrow.Author.Rules.{rules}
-use Rattle.std.proofs.lemmas.List.Edits.{sets}
 use Rattle.master.proofs.Stores.{store-next, store-none}
 use Rattle.master.proofs.driving.put_code.Goals as goal
 

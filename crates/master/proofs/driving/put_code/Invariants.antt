@@ -1,4 +1,4 @@
-use Rattle.std.proofs.Common.{◌≡◌, ◌+◌, length, drop}
+use Rattle.std.proofs.Common.{◌≡◌, ◌+◌, drop}
 use Rattle.std.proofs.lemmas.List.Edits.{sets}
 use Rattle.master.proofs.driving.put_code.Given as goal
 
