@@ -40,12 +40,12 @@ abbrev pub search_outcome : SearchTold → List ℕ → List ℕ → List LineSt
 search_outcome found codes trace lines = record { found = found; codes = codes; trace = trace; lines = lines }
 
 -- What a search told and left is equal to this outcome, part by part.
-pub record SearchLeaves (left : SearchOutcome) (found : SearchTold) (codes trace : List ℕ) (lines : List LineState) : Type 0
-  where
-    pub found-is : found ≡ left.found
-    pub codes-are : codes ≡ left.codes
-    pub trace-is : trace ≡ left.trace
-    pub lines_are : lines ≡ left.lines
+pub record SearchLeaves (left : SearchOutcome) (found : SearchTold) (codes trace : List ℕ) (lines : List LineState)
+    : Type 0 where
+  pub found-is : found ≡ left.found
+  pub codes-are : codes ≡ left.codes
+  pub trace-is : trace ≡ left.trace
+  pub lines_are : lines ≡ left.lines
 
 -- A search that is not refused leaves the bytes and line states past those named as they were; what the line states
 -- held before is ignored.
