@@ -16,7 +16,7 @@ const MOST_EVENTS: usize = 64 * PASS_EVENTS;
 #[derive(Clone, Copy)]
 pub enum Outcome {
     // A buffer has too little room, and nothing was written.
-    // As it is: `probe_drive` tells a C program both numbers in any case, so that a refused drive has them, and is no Err.
+    // As it is: `probe_drive` tells a C program both numbers in any case, so that a refused drive has them too.
     Refused,
     // The master ended.
     Ended(End),
