@@ -213,6 +213,7 @@ fn mark_of(state: LineState, byte: u8, level: bool) -> Mark
 // ---- what a read showed
 
 // T4:T0 of the target address are the offset in the scratchpad from which bytes are copied.
+// As it is: the crate sram computes this for itself alone, and by the project's rule nothing is public without need.
 fn first_offset(body: &[u8]) -> u8
     ensures { (result ≡ target_offset body.now) × (result < 32) }
 {
@@ -593,6 +594,7 @@ impl From<Rule> for u64 {
 }
 
 // The refusal's number is 0 where the recording is judged.
+// As it is: this and the next two give the C interface its numbers.
 #[tactic(auto, unfolding(crate::specs::Judge::told, crate::specs::Judge::so_far, crate::specs::Judge::refusal_of))]
 pub fn refusal_of(verdict: Result<Option<Broken>, Refusal>) -> u32
     ensures { result ≡ refusal_of (told verdict) }
