@@ -92,7 +92,7 @@ impl From<u8> for Event {
 }
 
 // The slots are events 0 and 1 at regular speed, and 4 and 5 at overdrive.
-// As it is: a slot is told by its byte, since a run that makes an `Event` of it in every slot takes a tenth more time.
+// As it is: a slot is told by its byte, here and below, as a run that makes an `Event` of each takes a tenth more time.
 #[tactic(auto, unfolding(crate::specs::Bus::event_of, crate::specs::Bus::is_slot))]
 fn is_slot(byte: u8) -> bool
     ensures { result ≡ is_slot (event_of byte) }
@@ -160,6 +160,7 @@ pub fn place_of(image: &[u8], i: usize) -> Place
     ensures { result ≡ place_in image.now i }
 {
     if i < device_count(image) && 5 + 4 * i < image.len() {
+        // As it is: i is below the count of devices, a byte, and no From goes from usize to u8.
         let Entry { kind, start } = image::entry_at(image, i as u8);
         let end = start + kind::body_size(kind);
         if end <= image.len() {
@@ -417,6 +418,7 @@ pub fn check(image: &[u8], trace: &[u8], answers: usize, lines: usize) -> Result
 // ---- all devices
 // As it is: image and line states are apart, as the level needs no image, and a search lends it only to be read.
 // As it is: n stands beside the slice, as `turns_up_to` says what the first n of all lent line states become.
+// As it is: the loops go by index, as `turns_up_to` and `shifted_from` speak of all lent line states, not of a part.
 
 // The level of an event on the first n devices comes with how many of them were looked at, for any line states, which
 // are not tested for their range. The scan stops at the first device that pulls low, as nothing behind it changes the
@@ -545,7 +547,7 @@ pub fn step(image: &mut [u8], lines: &mut [LineState], n: usize, byte: u8) -> Ev
 
 // This leaves the line states of the first n devices as a slot at a level does, where `overdrive` tells at which speed
 // the slot comes. The image is only read.
-// As it is: the index goes on as that of `slot_all`, whose loop also writes the image and adds bytes up, at one call.
+// As it is: the index goes on as that of `slot_all`, whose loop also writes the image and adds bytes up.
 fn read_slot_all(image: &[u8], lines: &mut [LineState], n: usize, overdrive: bool, level: bool)
     requires { n ≤ length lines.old }
     ensures { lines.new
@@ -562,6 +564,7 @@ fn read_slot_all(image: &[u8], lines: &mut [LineState], n: usize, overdrive: boo
 
 // This leaves the line states of the first n devices as a reset or a program pulse does. The image is only read. The
 // level has no part in it, and is 1 in the contract.
+// As it is: one loop for this and `turn_all` would be given the image by a trait, longer than these five lines.
 fn read_turn_all(image: &[u8], lines: &mut [LineState], n: usize, byte: u8)
     requires { (n ≤ length lines.old) × (is_slot (event_of byte) ≡ false) }
     ensures { lines.new ≡ turn_states_of image.now lines.old n byte true }
@@ -602,6 +605,7 @@ pub fn wait_all(lines: &mut [LineState], n: usize)
 // Each event of a trace on n devices gives its level as an answer, and then to each device. The bytes copied are added
 // up over the whole trace.
 // As it is: image, trace, answers and line states are arguments of their own, as the C interface lends each by itself.
+// As it is: `run_events_up_to` says what the first k answers of all are, so that the loop has k, where a zip has none.
 fn run_events(
     image: &mut [u8],
     trace: &[u8],

@@ -44,7 +44,7 @@ pub struct Stepped {
 
 // ---- the end of a transfer, by the stage
 
-// As it is: kind, speed, byte and level are no struct, as each arm would take it apart for the two or three it needs.
+// As it is: kind, body, speed, byte and level are no struct, as the arms hand on other parts of it, some to be written.
 
 // A memory command leads to the first transfer of a memory function of the device's kind.
 #[tactic(auto, unfolding(crate::specs::Device::memory_command))]
@@ -89,6 +89,7 @@ fn stage_next(
 }
 
 // This tells whether the device is then at overdrive: only a ROM stage changes the speed.
+// As it is: next and speed are two functions, as `rom_next` and `rom_speed` are two definitions, and most are plain.
 #[tactic(auto, unfolding(crate::specs::Device::stage_speed))]
 fn stage_speed(
     stage: Stage,
@@ -272,7 +273,7 @@ impl LineState {
     pub fn waits(self) -> bool
         ensures { result ≡ waits self }
     {
-        (self.transfer.left | self.overdrive as u8) == 0
+        (self.transfer.left | u8::from(self.overdrive)) == 0
     }
 
     // This is the level that the device sends in a slot.

@@ -8,6 +8,7 @@ use kind::{DATA_LENGTH, STATUS_LENGTH};
 use line::{EpromRead, EpromStage, Field, MemoryStage, Stage};
 
 // A stage of a DS1982's memory function is a stage of a device.
+// As it is: `Stage` is of `line`, and `in_eprom`, the definition that a `From` would state, is of this crate.
 pub(crate) fn in_eprom(e: EpromStage) -> Stage
     ensures { result ≡ in_eprom e }
 {
@@ -26,6 +27,7 @@ pub(crate) fn field_start(field: Field) -> usize
 }
 
 // This is how many bytes a field has.
+// As it is: each table of the two fields is a function, as it is a definition of its own; only the rows are alike.
 #[tactic(auto, unfolding(crate::specs::Fields::field_length))]
 pub(crate) fn field_length(field: Field) -> u8
     ensures { result ≡ field_length field }
@@ -55,6 +57,7 @@ pub(crate) fn field_read(read: EpromRead) -> Field
     }
 }
 
+// As it is: a `From` would have to stand in `line`, which has the types and knows no command.
 #[tactic(auto, unfolding(crate::specs::Fields::read_command))]
 pub(crate) fn read_command(read: EpromRead) -> u8
     ensures { result ≡ read_command read }

@@ -18,6 +18,7 @@ use line::{EpromRead, EpromStage, Field, Transfer};
 pub use view::remaining;
 
 // A memory command leads to the first transfer of its function, and any other command to waiting.
+// As it is: a command is its byte, as its definition has it, and any other byte is one too, which leads to waiting.
 #[tactic(auto, unfolding(crate::specs::Eprom::eprom_command))]
 pub fn command(value: u8) -> Transfer
     ensures { result ≡ eprom_command value }

@@ -10,6 +10,7 @@ use kind::{DATA_LENGTH, PAGE_LENGTH, STATUS_LENGTH};
 use line::{EpromRead, EpromStage, Transfer};
 
 // As it is: one function for `read_low` and `write_low` would be given the stage, and so be `line::listening` itself.
+// As it is: read, address and crc are arguments, as `send_byte` and the stages have them, each with other ones beside.
 
 // The device receives the low byte of the address.
 pub(crate) fn read_low(read: EpromRead) -> Transfer
@@ -56,6 +57,7 @@ pub(crate) fn read_latch(read: EpromRead, address: u16) -> Transfer
 {
     let start = cut(field_read(read), address);
     let crc = command_crc(read_command(read), start);
+    // As it is: a cut address is below 128, and no From goes from u16 to u8.
     send_crc(read, start as u8, crc)
 }
 

@@ -16,6 +16,7 @@ fn fields_fit(data: &[u8], status: &[u8]) -> bool
 
 // The bytes still to be read from a start address are the very part of one of the two fields. An empty part may lie
 // anywhere.
+// As it is: a command is its byte, as its definition matches it, and any other byte is one too, with nothing to read.
 pub fn remaining<'a>(command: u8, address: u16, data: &'a [u8], status: &'a [u8]) -> &'a [u8]
     ensures { (result.now ≡ bytes_to_read command address «data».now status.now)
         × (result.ref_ptr ≡ place_to_read command address «data».entry status.entry result.ref_ptr) }

@@ -43,6 +43,7 @@ pub(crate) fn write_latch(field: Field, address: u16) -> Transfer
 {
     let start = cut(field, address);
     let crc = command_crc(write_command(field), start);
+    // As it is: a cut address is below 128, and no From goes from u16 to u8.
     write_data(field, start as u8, crc)
 }
 

@@ -73,6 +73,7 @@ pub fn count(image: &[u8]) -> u8
     bits::byte_at(image, 0)
 }
 
+// As it is: image and i stay arguments, as a run and a C program lend an image as bytes that change between two calls.
 fn family_at(image: &[u8], i: u8) -> u8
     ensures { result ≡ family_at image.now i }
 {
@@ -85,6 +86,7 @@ fn second_at(image: &[u8], i: u8) -> u8
     bits::byte_at(image, 2 + 4 * bits::wide(i) + 1)
 }
 
+// As it is: an edition is its byte, as `battery_malformed` says what any byte but 1 does, and so it is no enum.
 fn edition(image: &[u8]) -> u8
     ensures { result ≡ edition_of image.now }
 {
@@ -212,6 +214,7 @@ fn is_miscoded(image: &[u8]) -> bool
     (0..count(image)).any(|i| is_code_refused(image, i))
 }
 
+// As it is: `equal_bytes` takes a code past the image's end as zeros, so that two slices of it cannot be compared.
 fn same_code(image: &[u8], i: u8, j: u8) -> bool
     ensures { result ≡ equal_bytes 8 (code_at image.now i) (code_at image.now j) }
 {

@@ -117,6 +117,7 @@ const REGISTER_BITS: usize = 24;
 
 // ---- one device at one event
 
+// As it is: it has the part of a stage that the rules look at, and so is no conversion of one value into another.
 fn doing_of(stage: Stage) -> Doing
     ensures { result ≡ doing_of stage }
 {
@@ -213,11 +214,10 @@ fn mark_of(state: LineState, byte: u8, level: bool) -> Mark
 // ---- what a read showed
 
 // T4:T0 of the target address are the offset in the scratchpad from which bytes are copied.
-// As it is: the crate sram computes this for itself alone, and by the project's rule nothing is public without need.
 fn first_offset(body: &[u8]) -> u8
     ensures { (result ≡ target_offset body.now) × (result < 32) }
 {
-    bits::byte_at(body, kind::TA1) % kind::SCRATCHPAD_LENGTH
+    sram::target_offset(body)
 }
 
 // So many bytes lie from T4:T0 through the ending offset.
@@ -225,8 +225,7 @@ fn first_offset(body: &[u8]) -> u8
 fn wanted_bytes(body: &[u8]) -> u8
     ensures { (result ≡ wanted_bytes body.now) × (result ≤ 32) }
 {
-    let last = bits::byte_at(body, kind::ES) % kind::SCRATCHPAD_LENGTH;
-    (last + 1).saturating_sub(first_offset(body))
+    (sram::ending_offset(body) + 1).saturating_sub(first_offset(body))
 }
 
 // A read is to show the registers, then the bytes from T4:T0 through the ending offset. This is bit `at` of them, by
@@ -449,7 +448,7 @@ impl<'a> Followed<'a> {
 fn is_accepted(at: u8, same: bool, value: u8, body: &[u8]) -> bool
     ensures { result ≡ pattern_accepted at same value body.now }
 {
-    (2 <= at) & same & (bits::byte_at(body, kind::TA1 + usize::from(at)) == value)
+    2 <= at && sram::pattern_same(at, same, value, body)
 }
 
 // Device i, which is at overdrive or not, accepts a copy in the event at the reader's place that was not read back.
@@ -622,6 +621,7 @@ pub fn event_of(verdict: Result<Option<Broken>, Refusal>) -> u64
     ensures { result ≡ broken_at (told verdict) }
 {
     match verdict {
+        // As it is: a C program is told a u64, and no From goes from usize to it.
         Ok(Some(broken)) => broken.event as u64,
         _ => 0,
     }
@@ -654,6 +654,7 @@ fn check(
 
 // Each of the first n devices is looked at in the event at the reader's place, before the event; one in the ROM stage
 // adds nothing to what is seen. Nothing changes.
+// As it is: n stands beside the line states, as `bus::step` has it, whose definition keeps those from n on.
 fn look(recording: Recording, image: &[u8], lines: &[LineState], n: usize) -> Seen
     requires { n ≤ length lines.now }
     ensures { result ≡ seen_up_to recording.entry.trace.now recording.entry.answers.now image.now
@@ -671,6 +672,7 @@ fn look(recording: Recording, image: &[u8], lines: &[LineState], n: usize) -> Se
 // The reader of a recording goes from event to event. Each is looked at while no rule is broken, then given to the n
 // devices in the work space; whether its level agrees with the recorded answer, and what was seen, leave the next
 // verdict.
+// As it is: n stands beside the line states, as `bus::step` has it, whose definition keeps those from n on.
 fn judge_events(
     trace: &[u8],
     answers: &[u8],
@@ -701,6 +703,7 @@ fn judge_events(
 
 // A recording that is refused changes nothing; in any other the bench runs the whole trace in the work space, whatever
 // the verdict is.
+// As it is: image, trace, answers and work space are arguments of their own, as the C interface lends each by itself.
 pub fn judge(
     image: &[u8],
     trace: &[u8],

@@ -50,6 +50,7 @@ fn code_room(levels: usize) -> usize
 }
 
 // This stores a code at its place among the codes.
+// As it is: a place may lie past the end, and std has no method that puts a slice and drops what has no room.
 fn put_code(codes: &mut [u8], place: u8, code: [u8; 8])
     ensures { codes.new ≡ sets codes.old (code_bytes * place) code }
 {
@@ -81,6 +82,7 @@ fn refused() -> Driven
 }
 
 // This drives a fresh master with recorded levels, into buffers that have room for all that it sends and completes.
+// As it is: the master may end before its levels do, and sends one event more, so that this is no `for` over them.
 fn step_levels(levels: &[u8], trace: &mut [u8], codes: &mut [u8]) -> Driven
     ensures { (result ≡ driven levels.now)
         × (trace.new ≡ sets trace.old 0 (events_from started_master levels.now))
@@ -117,6 +119,7 @@ fn step_levels(levels: &[u8], trace: &mut [u8], codes: &mut [u8]) -> Driven
 // This drives a fresh master with recorded levels: each is the level of the event just sent, and those after the end
 // are not read. The events go into `trace`, the completed codes into `codes`. Where one of these is too short for what
 // so many levels can bring, the drive is refused and nothing is written.
+// As it is: levels, trace and codes are arguments of their own, as the C interface lends each by itself.
 pub fn drive(levels: &[u8], trace: &mut [u8], codes: &mut [u8]) -> Driven
     ensures { (result ≡ drive_result levels.now trace.old codes.old)
         × (outcome_number result.outcome ≡ drive_number levels.now trace.old codes.old)

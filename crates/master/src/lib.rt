@@ -34,6 +34,7 @@ pub enum End {
 // As it is: an end is no error, as `Done` is the search that found all, so a `Result` of event and end would mislead.
 #[derive(Clone, Copy)]
 pub enum Answer {
+    // As it is: an event is its byte, as a search hands it to the bus and writes it to the trace, and knows no other.
     // The next event is 0 for a write-zero slot, 1 for a write-one slot (also the read slot), or 2 for a reset.
     Event(u8),
     End(End),
@@ -116,6 +117,7 @@ impl Step {
 
 // A master that has come to a stage answers with that stage's event, or with its end. The slot that sends a bit is the
 // event of the same value.
+// As it is: it is the rule of what a stage sends, and so is no conversion of one value into another.
 #[tactic(auto, unfolding(crate::specs::Master::answer_of, crate::specs::Master::slot_event))]
 fn answer_of(stage: Stage) -> Answer
     ensures { result ≡ answer_of stage }
@@ -179,6 +181,7 @@ impl Master {
 
     // A master is in range if a fresh one can come to its numbers.
     // As it is: with one arm for the three stages of a bit a search of one device takes some hundredths longer.
+    // As it is: no invariant holds the range, as `master_after_level` says what a step of any other master does.
     #[tactic(auto, unfolding(crate::specs::Master::master_in_range, crate::specs::Master::stage_in_range))]
     fn in_range(self) -> bool
         ensures { result ≡ master_in_range self }

@@ -22,7 +22,7 @@ const SEARCH_ONE: u8 = 0b101;
 
 const SEARCH_ZERO: u8 = 0b110;
 
-// As it is: kind and body are no struct here: a match needs no body, a search's bit no kind, and the body is only lent.
+// As it is: kind and body are no struct here, as most functions need one of the two, and the body is only lent.
 
 // The device sends a byte of the code.
 fn read_byte(byte: u8, body: &[u8]) -> Transfer
@@ -95,6 +95,7 @@ fn overdrive_command(value: u8, kind: Kind, overdrive: bool) -> Transfer
 }
 
 // A ROM command leads to the first transfer of its function; `overdrive` tells at which speed it came.
+// As it is: a command is its byte, as its definition has it, and any other byte is one too, which leads to waiting.
 #[tactic(auto, unfolding(crate::specs::Rom::rom_command))]
 fn command(value: u8, kind: Kind, overdrive: bool, body: &[u8]) -> Transfer
     ensures { result ≡ rom_command value kind overdrive body.now }

@@ -66,6 +66,7 @@ fn check(image: &[u8], codes: usize, trace: usize, lines: usize) -> Result<(), R
 
 // The first n devices answer an event with its level, as a byte, which each of them is then given. The image is only
 // read.
+// As it is: n stands beside the line states, as `bus::step_all` has it, whose definition keeps those from n on.
 #[tactic(auto, unfolding(bus::specs::Loops::scan_on, bits::specs::Bit::level_byte))]
 fn answered(image: &[u8], lines: &mut [LineState], n: usize, event: u8) -> u8
     ensures { (result ≡ level_byte (level_on lines.old n event))
@@ -104,7 +105,7 @@ fn resets_in(trace: &[u8]) -> u64
     count
 }
 
-// As it is: a chain of `filter` and `count` misses the speed of this loop, as in `resets_in`.
+// As it is: a chain misses the speed of this loop, and one count over a closure needs a clause longer than two loops.
 fn slots_in(trace: &[u8]) -> u64
     ensures { result ≡ slots_in trace.now }
 {
@@ -126,6 +127,7 @@ fn begins_pass(event: u8, after: u8) -> bool
 }
 
 // The last event begins no pass, as none comes after it.
+// As it is: a chain of `windows`, `filter` and `count` is as long, and this is the loop of the two counts above.
 fn passes_in(trace: &[u8]) -> u64
     ensures { result ≡ passes_in trace.now }
 {
@@ -153,6 +155,7 @@ fn tally(trace: &[u8]) -> Found
 // These are the exchanges for an image that is not refused, on devices that wait: each event that the master answers
 // goes to the devices as the one before left them, and the level that they answer goes to the master's next step. The
 // first step is given a level too, which it does not look at. The number of events is returned.
+// As it is: the master tells when it ends, and tests/forms holds this loop, so that `sent` counts what it sent.
 fn exchange(image: &[u8], codes: &mut [u8], trace: &mut [u8], lines: &mut [LineState]) -> usize
     requires { Ready image.now codes.old trace.old lines.old }
     ensures { (result ≡ length (search_of image.now).trace)
@@ -179,6 +182,7 @@ fn exchange(image: &[u8], codes: &mut [u8], trace: &mut [u8], lines: &mut [LineS
 }
 
 // A search that is refused changes nothing; in any other every device starts waiting, whatever the line states held.
+// As it is: image, codes, trace and line states are arguments of their own, as the C interface lends each by itself.
 pub fn search(
     image: &[u8],
     codes: &mut [u8],

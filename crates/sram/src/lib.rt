@@ -36,6 +36,7 @@ pub struct Written {
     pub bytes: u8,
 }
 
+// As it is: `Stage` is of `line`, and `in_sram`, the definition that a `From` would state, is of this crate.
 fn in_sram(s: SramStage) -> Stage
     ensures { result ≡ in_sram s }
 {
@@ -55,13 +56,14 @@ fn target(body: &[u8]) -> u16
 }
 
 // T4:T0 of the target address are the offset in the scratchpad that it names.
-fn target_offset(body: &[u8]) -> u8
+pub fn target_offset(body: &[u8]) -> u8
     ensures { result ≡ target_offset body.now }
 {
     bits::byte_at(body, kind::TA1) % kind::SCRATCHPAD_LENGTH
 }
 
-fn ending_offset(body: &[u8]) -> u8
+// The five low bits of E/S are the offset of the last byte that was written to the scratchpad.
+pub fn ending_offset(body: &[u8]) -> u8
     ensures { result ≡ ending_offset body.now }
 {
     bits::byte_at(body, kind::ES) % kind::SCRATCHPAD_LENGTH
@@ -162,6 +164,7 @@ fn read_register(at: u8, body: &[u8]) -> Transfer
 }
 
 // The device sends the byte of the scratchpad at `offset`.
+// As it is: one function for this and `read_register` would be given the stage, and so be `line::sending` itself.
 fn read_scratchpad(offset: u8, body: &[u8]) -> Transfer
     ensures { result ≡ read_scratchpad offset body.now }
 {
@@ -214,7 +217,7 @@ fn copied() -> Transfer
 // The pattern is still equal if the bytes before this one were (`same`) and this one is equal to its register. Every
 // flag of E/S counts.
 #[tactic(auto, unfolding(crate::specs::Sram::pattern_same))]
-fn pattern_same(at: u8, same: bool, value: u8, body: &[u8]) -> bool
+pub fn pattern_same(at: u8, same: bool, value: u8, body: &[u8]) -> bool
     ensures { result ≡ pattern_same at same value body.now }
 {
     same && bits::byte_at(body, kind::TA1 + usize::from(at)) == value
@@ -323,6 +326,7 @@ fn after_memory(address: u16, size: u16, body: &[u8]) -> Transfer
 // ---- every function
 
 // A memory command leads to the first transfer of its function, and any other command to waiting.
+// As it is: a command is its byte, as its definition has it, and any other byte is one too, which leads to waiting.
 #[tactic(auto, unfolding(crate::specs::Sram::sram_command))]
 pub fn command(value: u8, body: &[u8]) -> Transfer
     ensures { result ≡ sram_command value body.now }

@@ -79,6 +79,7 @@ pub extern "C" fn probe_drive(
 {
     let driven = master::drive(levels, trace, codes);
     let outcome = driven.outcome;
+    // As it is: a C program is told a u64, here and below, and no From goes from usize to it.
     *events = driven.events as u64;
     *completed = driven.codes as u64;
     outcome_number(outcome)
@@ -110,6 +111,7 @@ pub extern "C" fn probe_remaining<'a>(
     part.len() as u64
 }
 
+// As it is: a number is cut to a byte, which no conversion does but a cast.
 fn low_byte(number: usize) -> u8
     ensures { result ≡ number % 256 }
 {
@@ -118,6 +120,7 @@ fn low_byte(number: usize) -> u8
 
 // This is the number of devices that the level of an event looked at, as a byte; it is 255 for an event that is not a
 // slot.
+// As it is: the number goes into a C program's bytes, so that an event that is no slot is 255 there and no None.
 #[tactic(auto, unfolding(crate::specs::Loops::number_of, crate::specs::Loops::number_for))]
 fn number_of(byte: u8, looked: usize) -> u8
     ensures { result ≡ number_of byte looked }
@@ -129,6 +132,7 @@ fn number_of(byte: u8, looked: usize) -> u8
 }
 
 // This writes the number for every event of a trace on n devices, which are stepped as in a run.
+// As it is: `numbered_run` says what the first k numbers of all are, so that the loop has k, where a zip has none.
 fn number_events(
     image: &mut [u8],
     trace: &[u8],
@@ -149,6 +153,7 @@ fn number_events(
 
 // This writes the number for every event of a trace, with 64 line states of its own, for devices that wait at the
 // start.
+// As it is: n stands beside the line states, as `bus::step` has it, whose definition keeps those from n on.
 fn number_own(image: &mut [u8], trace: &[u8], looked: &mut [u8], n: usize)
     requires { (length trace.now ≤ length looked.old) × (n ≤ 64) }
     ensures { (image.new ≡ (numbered_run trace.now n

@@ -69,6 +69,7 @@ fn code_of(family: u8, serial: u8) -> [u8; 8] {
 }
 
 // This writes a code at the start of a body.
+// As it is: a start may lie past the end, and std has no method that puts a slice and drops what has no room.
 fn put_code(image: &mut [u8], start: u16, code: [u8; 8]) {
     for (k, byte) in code.iter().enumerate() {
         bits::put_byte(image, usize::from(start) + k, *byte);
