@@ -445,6 +445,7 @@ impl<'a> Followed<'a> {
 
 // A copy is accepted with the third byte of a pattern that is equal to the registers.
 // As it is: at and same come from a stage, and the value from a slot, so that they are no struct of their own.
+#[tactic(auto, unfolding(crate::specs::Loops::pattern_accepted))]
 fn is_accepted(at: u8, same: bool, value: u8, body: &[u8]) -> bool
     ensures { result ≡ pattern_accepted at same value body.now }
 {
