@@ -8,11 +8,12 @@ use native.Mathlib.Nat.{add-zero}
 use native.Mathlib.Numerals.{add-one}
 use lib.ListN.{length, get_or, set, take, drop, replicate, length-append, length-map, length-replicate, take-append-drop, replicate-append-replicate, get_or-append}
 use lib.Seq.{length-take-le, get_or-take, take_at, drop_at, get_or_at, set_at, drop-append-add, take-suc, drop-cons, append_snoc, take-length, drop-length, drop-drop}
-use lib.Dec.{eqb}
+use lib.Dec.{T, eqb}
 use borrow.Author.Tests.{lt-ltb, le-ltb, le-leb}
 use Rattle.kind.specs.declared.Kind.{Kind}
 use Rattle.kind.specs.declared.Kind.TheVariants.{Unknown}
 use Rattle.kind.specs.Kind.{kind_of, body_size, code_length, is_flat}
+use Rattle.image.proofs.Counted.{some_refusal}
 use Rattle.image.specs.Image.{count_of, edition_of, family_at, second_at, offset_at, flat_at, kind_at, packed_at, body_at, code_at}
 use Rattle.image.specs.Refusal.{image_refusal}
 use Rattle.image.proofs.Accepted.{Known, accepted-known, body-length, body-code}
@@ -534,24 +535,23 @@ run-shown trace image answers lines e =
     ∙ ap (λ (m : ℕ). run_at m image trace answers lines) (sym e)
 
 -- what is refused changes nothing, and copies nothing
-refused-at : (refusal : Refusal) (trace image answers : List ℕ) (lines : List LineState)
+refused-at : (m : ℕ) (trace image answers : List ℕ) (lines : List LineState) → T (not (eqb m 0)) → run_outcome (run_result m 0) image answers lines ≡ run_at m image trace answers lines
+unfolding run_at
+refused-at zero trace image answers lines t = absurd t
+refused-at (suc m) trace image answers lines t = refl
+
+-- an `Err` tells its refusal's number, which is not 0
+refusal-at : (refusal : Refusal) (trace image answers : List ℕ) (lines : List LineState)
     → run_outcome (run_told (Err refusal)) image answers lines ≡ run_at (refusal_number refusal) image trace answers lines
-unfolding run_told run_at refusal_number
-refused-at MalformedImage trace image answers lines = refl
-refused-at MisplacedBody trace image answers lines = refl
-refused-at WrongCode trace image answers lines = refl
-refused-at EqualCodes trace image answers lines = refl
-refused-at BadTrace trace image answers lines = refl
-refused-at NoFirstReset trace image answers lines = refl
-refused-at BadPulse trace image answers lines = refl
-refused-at NoRoom trace image answers lines = refl
+unfolding run_told
+refusal-at refusal trace image answers lines = refused-at (refusal_number refusal) trace image answers lines (some_refusal refusal)
 
 pub run-refused : (refusal : Refusal) (trace image answers : List ℕ) (lines : List LineState)
     → refusal_number refusal ≡ run_refusal image trace (length answers) (length lines)
     → run_outcome (run_told (Err refusal)) image answers lines ≡ run_of image trace answers lines
 unfolding run_of
 run-refused refusal trace image answers lines e =
-    refused-at refusal trace image answers lines ∙ ap (λ (m : ℕ). run_at m image trace answers lines) e
+    refusal-at refusal trace image answers lines ∙ ap (λ (m : ℕ). run_at m image trace answers lines) e
 
 -- what a run left, as one equation and as an equation for each thing
 pub run-leaves : (left : RunOutcome) (result : RunResult) (image answers : List ℕ) (lines : List LineState)

@@ -7,7 +7,7 @@
 
 ghost use Rattle.std.specs.Prelude.{◌≡◌, ◌≤◌, ◌+◌, ◌-◌, true, false, not, length, eqb, ltb};
 ghost use Rattle.image.specs.Image.{count_of, kind_at};
-ghost use Rattle.image.specs.Refusal.{some_below, number_of};
+ghost use Rattle.image.specs.Refusal.{some_below, told_number};
 ghost use Rattle.kind.specs.Kind.{is_eprom};
 ghost use Rattle.bus.specs.Bus.{event_of, hears, master_high, read_slot, is_slot, is_overdrive};
 ghost use Rattle.bus.specs.Refusal.{some_byte, bad_trace, no_first_reset, bad_pulse, no_run_room};
@@ -140,7 +140,6 @@ fn hears(event: Event, state: LineState) -> bool
 // In an event a device leaves the line high if it does not hear it, or if it answers with a 1: in a slot it answers
 // with what it sends, and in a reset with its presence, a 0. In a regular slot most devices send a 1, so that this is
 // asked first, and of most devices nothing else.
-#[tactic(auto, unfolding(crate::specs::Bus::event_of, crate::specs::Bus::hears, crate::specs::Loops::answers_high, crate::specs::Loops::leaves_high))]
 fn leaves_high(byte: u8, state: LineState) -> bool
     ensures { result ≡ leaves_high (event_of byte) state }
 {
@@ -397,7 +396,7 @@ fn lacks_room(image: &[u8], trace: &[u8], answers: usize, lines: usize) -> bool
 
 // A run is refused for the first cause that applies: one of the image's, then those of the trace and of the room.
 pub fn check(image: &[u8], trace: &[u8], answers: usize, lines: usize) -> Result<(), Refusal>
-    ensures { number_of result ≡ run_refusal image.now trace.now answers lines }
+    ensures { told_number result ≡ run_refusal image.now trace.now answers lines }
 {
     image::check(image)?;
     if is_bad_trace(trace) {

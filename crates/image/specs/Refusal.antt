@@ -23,9 +23,9 @@ refusal_number BadPulse = 6
 refusal_number NoRoom = 7
 
 -- What is not refused has the number 0, and what is refused the number of its refusal.
-unfoldable pub number_of : {A : Type 0} → Result A Refusal → ℕ
-number_of (Ok answer) = 0
-number_of (Err refusal) = refusal_number refusal
+unfoldable pub told_number : {A : Type 0} → Result A Refusal → ℕ
+told_number (Ok answer) = 0
+told_number (Err refusal) = refusal_number refusal
 
 -- A test passes at some number below n.
 unfoldable pub some_below : ℕ → (ℕ → Bool) → Bool

@@ -9,7 +9,7 @@ ghost use Rattle.image.specs.Image.{entry_of};
 ghost use Rattle.image.specs.Refusal.{some_below, equal_bytes, edition_known, battery_malformed, entry_malformed};
 ghost use Rattle.image.specs.Refusal.{image_malformed, image_too_long, body_misplaced};
 ghost use Rattle.image.specs.Refusal.{code_refused, some_code_refused, code_repeated, some_code_repeated};
-ghost use Rattle.image.specs.Refusal.{image_refusal, refusal_number, number_of};
+ghost use Rattle.image.specs.Refusal.{image_refusal, refusal_number, told_number};
 
 use kind::Kind;
 
@@ -20,7 +20,7 @@ pub struct Entry {
     pub start: usize,
 }
 
-// An image, a run or a search is refused for one of these causes, and the first that applies is given.
+// An image, a run, a search or a judgement is refused for one of these causes, and the first that applies is given.
 #[derive(Clone, Copy, Debug, PartialEq, Eq)]
 pub enum Refusal {
     // The image is too short for its entries, has over 64 devices or an unknown edition, or an entry is malformed.
@@ -37,7 +37,7 @@ pub enum Refusal {
     NoFirstReset,
     // The trace has a program pulse while a device is not a DS1982.
     BadPulse,
-    // A buffer is too short, or there are too few line states.
+    // A buffer is too short, recorded answers are of another length than the trace, or line states are too few.
     NoRoom,
 }
 
@@ -238,9 +238,8 @@ fn is_doubled(image: &[u8]) -> bool
 }
 
 // An image is refused for the first cause that applies.
-#[tactic(auto, unfolding(crate::specs::Refusal::number_of, crate::specs::Refusal::refusal_number, crate::specs::Refusal::image_refusal, crate::specs::Refusal::image_causes, crate::specs::Refusal::first_cause))]
 pub fn check(image: &[u8]) -> Result<(), Refusal>
-    ensures { number_of result ≡ image_refusal image.now }
+    ensures { told_number result ≡ image_refusal image.now }
 {
     if is_malformed(image) {
         return Err(Refusal::MalformedImage);

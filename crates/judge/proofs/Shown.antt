@@ -8,12 +8,13 @@ use native.Mathlib.Omega.{arith}
 use native.Mathlib.Nat.{eq-or-lt_of_le}
 use lib.ListN.{length, get_or, take, drop, replicate, take-append-drop}
 use lib.Seq.{length-take-le, drop-cons, get_or_at, take-length}
-use lib.Dec.{eqb, ltb}
+use lib.Dec.{T, eqb, ltb}
 use borrow.Author.Tests.{eqb-true, ltb-false, lt-ltb, not-false}
 use Rattle.bits.specs.Bit.{level_byte}
 use Rattle.kind.specs.declared.Kind.{Kind}
 use Rattle.kind.specs.declared.Kind.TheVariants as kinds
 use Rattle.kind.specs.Kind.{is_sram}
+use Rattle.image.proofs.Counted.{some_refusal}
 use Rattle.image.specs.Image.{count_of}
 use Rattle.image.specs.Refusal.{some_below}
 use Rattle.image.proofs.Accepted.{Known, accepted-known}
@@ -372,24 +373,17 @@ judge-shown image trace answers work lines e =
     ∙ ap (λ (m : ℕ). judge_at m image trace answers work lines) (sym e)
 
 -- what is refused changes nothing
-refused-at : (refusal : Refusal) (image trace answers work : List ℕ) (lines : List LineState)
-    → judge_outcome (Refused (refusal_number refusal)) work lines ≡ judge_at (refusal_number refusal) image trace answers work lines
-unfolding judge_at refusal_number
-refused-at MalformedImage image trace answers work lines = refl
-refused-at MisplacedBody image trace answers work lines = refl
-refused-at WrongCode image trace answers work lines = refl
-refused-at EqualCodes image trace answers work lines = refl
-refused-at BadTrace image trace answers work lines = refl
-refused-at NoFirstReset image trace answers work lines = refl
-refused-at BadPulse image trace answers work lines = refl
-refused-at NoRoom image trace answers work lines = refl
+refused-at : (m : ℕ) (image trace answers work : List ℕ) (lines : List LineState) → T (not (eqb m 0)) → judge_outcome (Refused m) work lines ≡ judge_at m image trace answers work lines
+unfolding judge_at
+refused-at zero image trace answers work lines t = absurd t
+refused-at (suc m) image trace answers work lines t = refl
 
 pub judge-refused : (refusal : Refusal) (image trace answers work : List ℕ) (lines : List LineState)
     → refusal_number refusal ≡ judge_refusal image trace (length answers) (length work) (length lines)
     → judge_outcome (Refused (refusal_number refusal)) work lines ≡ judge_of image trace answers work lines
 unfolding judge_of
 judge-refused refusal image trace answers work lines e =
-    refused-at refusal image trace answers work lines ∙ ap (λ (m : ℕ). judge_at m image trace answers work lines) e
+    refused-at (refusal_number refusal) image trace answers work lines (some_refusal refusal) ∙ ap (λ (m : ℕ). judge_at m image trace answers work lines) e
 
 -- what the judge left, as one equation and as an equation for each thing
 pub judge-leaves : (left : JudgeOutcome) (verdict : Verdict) (work : List ℕ) (lines : List LineState)

@@ -9,7 +9,7 @@
 #![tactic(auto)]
 
 ghost use Rattle.std.specs.Prelude.{◌≡◌, ◌≤◌, ◌<◌, ◌+◌, ◌-◌, true, false, cond, ◌||◌, length, eqb};
-ghost use Rattle.image.specs.Refusal.{number_of};
+ghost use Rattle.image.specs.Refusal.{told_number};
 ghost use Rattle.sram.specs.Sram.{target_offset};
 ghost use Rattle.device.specs.Device.{reset_at};
 ghost use Rattle.bus.specs.Bus.{device_with};
@@ -639,7 +639,7 @@ fn check(
     work: usize,
     lines: usize,
 ) -> Result<(), Refusal>
-    ensures { number_of result ≡ judge_refusal image.now trace.now answers work lines }
+    ensures { told_number result ≡ judge_refusal image.now trace.now answers work lines }
 {
     bus::check(image, trace, trace.len(), lines)?;
     if answers != trace.len() {

@@ -6,8 +6,9 @@ use mathlib.Core.List.{List, [], ◌∷◌, ◌++◌}
 use native.Mathlib.Omega.{arith}
 use lib.ListN.{length, take, drop, replicate, length-replicate}
 use lib.Seq.{take_at, drop_at}
-use lib.Dec.{ltb}
+use lib.Dec.{T, eqb, ltb}
 use borrow.Author.Tests.{ltb-false}
+use Rattle.image.proofs.Counted.{some_refusal}
 use Rattle.image.specs.Image.{count_of}
 use Rattle.image.specs.Refusal.{cause, image_causes, image_refusal}
 use Rattle.device.specs.declared.LineState.{LineState}
@@ -98,20 +99,19 @@ module _ (image codes trace : List ℕ) (lines : List LineState) where
       ∙ ap (λ (m : ℕ). search_outcome_at m image codes trace lines) (sym e)
 
   -- a refusal is told by its number, and nothing is counted
-  refused-at : (e : Refusal) → search_outcome (search_told (Err e)) codes trace lines ≡ search_outcome_at (refusal_number e) image codes trace lines
-  unfolding search_told refusal_number search_outcome_at found_in passes_in resets_in slots_in
-  refused-at MalformedImage = refl
-  refused-at MisplacedBody = refl
-  refused-at WrongCode = refl
-  refused-at EqualCodes = refl
-  refused-at BadTrace = refl
-  refused-at NoFirstReset = refl
-  refused-at BadPulse = refl
-  refused-at NoRoom = refl
+  refused-at : (m : ℕ) → T (not (eqb m 0)) → search_outcome (found_in m (take 0 trace)) codes trace lines ≡ search_outcome_at m image codes trace lines
+  unfolding search_outcome_at
+  refused-at zero t = absurd t
+  refused-at (suc m) t = refl
+
+  -- an `Err` tells its refusal's number, which is not 0
+  refusal-at : (e : Refusal) → search_outcome (search_told (Err e)) codes trace lines ≡ search_outcome_at (refusal_number e) image codes trace lines
+  unfolding search_told found_in passes_in resets_in slots_in
+  refusal-at e = refused-at (refusal_number e) (some_refusal e)
 
   pub refused : (e : Refusal) → refusal_number e ≡ number → search_outcome (search_told (Err e)) codes trace lines ≡ search_outcome_of image codes trace lines
   unfolding search_outcome_of
-  refused e h = refused-at e ∙ ap (λ (m : ℕ). search_outcome_at m image codes trace lines) h
+  refused e h = refusal-at e ∙ ap (λ (m : ℕ). search_outcome_at m image codes trace lines) h
 
 -- what a search left, as one equation and as an equation for each thing
 pub leaves : (left : SearchOutcome) (found : SearchTold) (codes trace : List ℕ) (lines : List LineState) → search_outcome found codes trace lines ≡ left → SearchLeaves left found codes trace lines

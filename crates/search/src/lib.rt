@@ -8,7 +8,7 @@
 ghost use Rattle.std.specs.Prelude.{◌≡◌, ◌≤◌, ◌*◌, cond, ◌&&◌, ◌++◌, length, drop, OnOk};
 ghost use Rattle.std.proofs.lemmas.List.Edits.{sets};
 ghost use Rattle.image.specs.Image.{count_of};
-ghost use Rattle.image.specs.Refusal.{number_of};
+ghost use Rattle.image.specs.Refusal.{told_number};
 ghost use Rattle.master.specs.Master.{code_bytes, next_master, step_of};
 ghost use Rattle.master.specs.Drive.{code_completed, written_over};
 ghost use Rattle.bits.specs.Bit.{level_byte};
@@ -53,7 +53,7 @@ fn lacks_room(image: &[u8], codes: usize, trace: usize, lines: usize) -> bool
 
 // A search is refused for the first cause that applies, 1 to 4 or 7.
 fn check(image: &[u8], codes: usize, trace: usize, lines: usize) -> Result<(), Refusal>
-    ensures { (number_of result ≡ search_refusal image.now codes trace lines) × Bytes image.now }
+    ensures { (told_number result ≡ search_refusal image.now codes trace lines) × Bytes image.now }
 {
     image::check(image)?;
     if lacks_room(image, codes, trace, lines) {

@@ -2,7 +2,7 @@ use Rattle.std.proofs.Common.{◌≡◌, ℕ, length, sym, ◌∙◌, ap, arith}
 use Rattle.std.proofs.lemmas.Result.{err_from_is_err_and}
 use Rattle.device.specs.Device.{waiting_state}
 use Rattle.image.specs.Image.{count_of}
-use Rattle.image.specs.Refusal.{number_of}
+use Rattle.image.specs.Refusal.{told_number}
 use Rattle.bus.specs.Refusal.{run_refusal}
 use Rattle.bus.specs.Loops.{filled_up_to, fewer_of, run_state, run_events_up_to, copied_by_events}
 use Rattle.bus.specs.Run.{run_outcome, run_of, run_result, run_told}
@@ -11,7 +11,7 @@ use Rattle.bus.proofs.Shown.{ends, copied-in-all, run-shown, run-refused, run-le
 use Rattle.bus.proofs.run.Goals as goal
 
 pub returns-in_err-check : goal.returns-in_err-check
-unfolding number_of
+unfolding told_number
 returns-in_err-check c =
     let im = c.args.image.now in
     let trace = c.args.trace.now in
@@ -21,13 +21,13 @@ returns-in_err-check c =
     rw (p.1, p.2) (run-leaves (run_of im trace answers ls) _ _ _ _ (run-refused _ trace im answers ls c.in_err-check.ensures))
 
 pub run_events-requires : goal.run_events-requires
-unfolding number_of
+unfolding told_number
 run_events-requires c =
     let has = admitted _ _ _ _ (sym c.in_ok-check.ensures) in
     (has.answers-room, omega (arith, has.lines-room, c.device_count-n.ensures))
 
 pub returns : goal.returns
-unfolding number_of run_told
+unfolding told_number run_told
 returns c =
     let im = c.args.image.now in
     let trace = c.args.trace.now in

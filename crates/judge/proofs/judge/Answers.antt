@@ -2,7 +2,7 @@ use Rattle.std.proofs.Common.{◌≡◌, ℕ, ◌++◌, length, drop, sym, ap, �
 use Rattle.std.proofs.lemmas.List.{length-take-le}
 use Rattle.std.proofs.lemmas.Result.{err_from_is_err_and}
 use Rattle.image.specs.Image.{count_of}
-use Rattle.image.specs.Refusal.{number_of}
+use Rattle.image.specs.Refusal.{told_number}
 use Rattle.device.specs.Device.{waiting_state}
 use Rattle.bus.specs.Loops.{filled_up_to, fewer_of}
 use Rattle.bus.proofs.Laws.{filled-length}
@@ -13,7 +13,7 @@ use Rattle.judge.proofs.Shown.{judged, admits, judge-shown, judge-refused, judge
 use Rattle.judge.proofs.judge.Goals as goal
 
 pub returns-in_err-check : goal.returns-in_err-check
-unfolding number_of told
+unfolding told_number told
 returns-in_err-check c =
     let im = c.args.image.now in
     let trace = c.args.trace.now in
@@ -25,19 +25,19 @@ returns-in_err-check c =
     (judge-leaves (judge_of im trace answers work ls) _ _ _ (judge-refused _ im trace answers work ls c.in_err-check.ensures))
 
 pub slice_bounds-copy_from_slice-end : goal.slice_bounds-copy_from_slice-end
-unfolding number_of
+unfolding told_number
 slice_bounds-copy_from_slice-end c = (admits _ _ _ _ _ (sym c.in_ok-check.ensures)).work-room
 
 pub slice_bounds-copy_from_slice-end-2 : goal.slice_bounds-copy_from_slice-end-2
-unfolding number_of
+unfolding told_number
 slice_bounds-copy_from_slice-end-2 c = sym (length-take-le _ _ (admits _ _ _ _ _ (sym c.in_ok-check.ensures)).work-room)
 
 pub copy_from_slice-requires : goal.copy_from_slice-requires
-unfolding number_of
+unfolding told_number
 copy_from_slice-requires c = length-take-le _ _ (admits _ _ _ _ _ (sym c.in_ok-check.ensures)).work-room
 
 pub judge_events-requires : goal.judge_events-requires
-unfolding number_of
+unfolding told_number
 judge_events-requires c =
     let ls = c.args.lines.now in
     let room = (admits _ _ _ _ _ (sym c.in_ok-check.ensures)).run.lines-room in
@@ -50,7 +50,7 @@ judge_events-requires c =
     )
 
 pub returns : goal.returns
-unfolding number_of told
+unfolding told_number told
 returns c =
     let im = c.args.image.now in
     let trace = c.args.trace.now in

@@ -3,7 +3,7 @@ use Rattle.std.proofs.lemmas.Result.{err_from_is_err_and}
 use Rattle.device.specs.declared.LineState.{LineState}
 use Rattle.device.specs.Device.{waiting_state}
 use Rattle.image.specs.Image.{count_of}
-use Rattle.image.specs.Refusal.{number_of}
+use Rattle.image.specs.Refusal.{told_number}
 use Rattle.bus.specs.Run.{states_of}
 use Rattle.bus.specs.Loops.{filled_up_to, fewer_of}
 use Rattle.search_laws.specs.Search.{search_of}
@@ -13,14 +13,14 @@ use Rattle.search.proofs.Shown.{begun, ready, claim, shown, refused, leaves}
 use Rattle.search.proofs.search.Goals as goal
 
 pub returns-in_err-check : goal.returns-in_err-check
-unfolding number_of
+unfolding told_number
 returns-in_err-check c =
     let p = err_from_is_err_and c.from_residual.result c.from_residual.ensures.1 in
     let a = c.args in
     rw (p.1, p.2) (leaves _ _ _ _ _ (refused a.image.now a.codes.now a.trace.now a.lines.now _ c.in_err-check.ensures.0), tt)
 
 pub exchange-sent-requires : goal.exchange-sent-requires
-unfolding number_of
+unfolding told_number
 exchange-sent-requires c =
     let a = c.args in
     let checked = c.in_ok-check.ensures in
@@ -30,7 +30,7 @@ exchange-sent-requires c =
     (ready a.image.now a.codes.now a.trace.now a.lines.now checked.1 (sym checked.0))
 
 pub returns : goal.returns
-unfolding number_of
+unfolding told_number
 returns c =
     let a = c.args in
     let checked = c.in_ok-check.ensures in
