@@ -1,7 +1,7 @@
 -- Where the image is not refused and there is room, what the loops of `specs/Loops.antt` do is what `specs/Bus.antt` and `specs/Run.antt` say.
 use Prim.Native.Nat.{ℕ, zero, suc, ◌+◌, ◌-◌, ◌*◌, ◌<◌, ◌≤◌}
 use mathlib.Core.Path.{◌≡◌, refl, sym, ap, subst, ◌∙◌}
-use mathlib.Core.Bool.{Bool, true, false, cond, ◌&&◌}
+use mathlib.Core.Bool.{Bool, true, false, cond, ◌&&◌, not}
 use mathlib.Core.List.{List, [], ◌∷◌, ◌++◌, map, append_assoc, append-nil, map-append}
 use native.Mathlib.Omega.{arith}
 use native.Mathlib.Nat.{add-zero}
@@ -30,7 +30,6 @@ use Rattle.bus.specs.Loops.{looked_as_is, looked_on, fewer_of}
 use Rattle.bus.specs.Loops.{copied_as_is, turn_copied, most_copied, added_to, copied_up_to, copied_on, copied_by_events}
 use Rattle.std.specs.Prelude.{Err}
 use Rattle.image.specs.declared.Refusal.{Refusal}
-use Rattle.image.specs.declared.Refusal.TheVariants.{MalformedImage, MisplacedBody, WrongCode, EqualCodes, BadTrace, NoFirstReset, BadPulse, NoRoom}
 use Rattle.image.specs.Refusal.{refusal_number}
 use Rattle.bus.specs.Run.{RunResult, run_told}
 use Rattle.device.proofs.Range.{waiting-in-range}

@@ -32,7 +32,6 @@ use Rattle.bus.proofs.Runs.{run-append, run_length, run-same, same_length}
 use Rattle.bus.proofs.Shown.{Stand, stand-same, image_of, device-is, level-is, turned-is, waiting-all, waiting-stands, waiting-in, waiting-image, waiting-states, filled_is}
 use Rattle.judge.specs.declared.Rule.TheVariants as rules
 use Rattle.image.specs.declared.Refusal.{Refusal}
-use Rattle.image.specs.declared.Refusal.TheVariants.{MalformedImage, MisplacedBody, WrongCode, EqualCodes, BadTrace, NoFirstReset, BadPulse, NoRoom}
 use Rattle.image.specs.Refusal.{refusal_number}
 use Rattle.judge.specs.Judge.{Verdict, Accepted, Broken, Refused, First, none, at, or_here, first_below, verdict_by, verdict_of, JudgeOutcome, judge_outcome, JudgeLeaves, left_by_judge, judge_at, judge_of}
 use Rattle.judge.specs.declared.Seen.{Seen}

@@ -1,7 +1,7 @@
 -- What the code of `search` leaves is what its contract says. Assumes nothing.
-use Prim.Native.Nat.{ℕ, ◌*◌, ◌≤◌}
+use Prim.Native.Nat.{ℕ, zero, suc, ◌*◌, ◌≤◌}
 use mathlib.Core.Path.{◌≡◌, refl, sym, ap, subst, ◌∙◌}
-use mathlib.Core.Bool.{Bool, true, false, cond, ◌||◌, true≢false}
+use mathlib.Core.Bool.{Bool, true, false, cond, ◌||◌, true≢false, not}
 use mathlib.Core.List.{List, [], ◌∷◌, ◌++◌}
 use native.Mathlib.Omega.{arith}
 use lib.ListN.{length, take, drop, replicate, length-replicate}
@@ -25,7 +25,6 @@ use Rattle.search_laws.specs.Words.{Bytes, passes_in, resets_in, slots_in}
 use Rattle.search_laws.proofs.Demand.{searched}
 use Rattle.std.specs.Prelude.{Err}
 use Rattle.image.specs.declared.Refusal.{Refusal}
-use Rattle.image.specs.declared.Refusal.TheVariants.{MalformedImage, MisplacedBody, WrongCode, EqualCodes, BadTrace, NoFirstReset, BadPulse, NoRoom}
 use Rattle.image.specs.Refusal.{refusal_number}
 use Rattle.search.specs.Refusal.{no_search_room, search_causes, search_refusal}
 use Rattle.search.specs.Found.{found_in, search_told, SearchTold, SearchOutcome, search_outcome, SearchLeaves, left_by_search, search_outcome_at, search_outcome_of}
