@@ -49,11 +49,13 @@ class Function:
 def functions(sources):
     for name, text in sources.items():
         code = bare(text)
-        for found in re.finditer(r"^( *)(?:pub(?:\([a-z]+\))? )?(?:extern \"C\" )?fn (\w+)(?:<[^>]*>)?\(", code, re.M):
+        for found in re.finditer(r"^( *)(?:pub(?:\([a-z]+\))? )?(?:extern \"C\" )?fn (\w+)(?:<.*?>)?\(", code, re.M):
             indent, start = found.group(1), found.end()
             end = re.compile(r"^" + indent + r"\}", re.M).search(code, start)
             whole = code[start:end.start() if end else len(code)]
-            brace = re.search(r"^" + indent + r"\{|\) *(?:-> [^{;]*)?\{", whole, re.M)
+            # The brace of a body that follows clauses stands on a line of its own, and else at the end of the head.
+            brace = (re.search(r"^" + indent + r"\{", whole, re.M)
+                     or re.search(r"\) *(?:-> [^{;]*)?\{", whole, re.M))
             head = whole[:brace.start() + 1] if brace else whole
             body = whole[brace.end():] if brace else ""
             parameters = re.findall(r"(?:^|[(,]|\n)\s*(?:mut )?(\w+): (&?(?:'\w+ )?(?:mut )?[\w\[\]:; ]+)", head)
