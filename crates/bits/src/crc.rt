@@ -36,7 +36,7 @@ fn table() -> [u8; 256]
 pub fn crc_byte(register: u8, byte: u8) -> u8
     ensures { result ≡ crc_byte register byte }
 {
-    table()[(register ^ byte) as usize]
+    table()[usize::from(register ^ byte)]
 }
 
 // This is the CRC register after the bytes of a slice.
@@ -45,21 +45,16 @@ pub fn crc_from(register: u8, s: &[u8]) -> u8
 {
     let entries = table();
     let mut reg = register;
-    let mut i = 0;
-    while i < s.len() {
-        reg = entries[(reg ^ s[i]) as usize];
-        i += 1;
+    for byte in s {
+        reg = entries[usize::from(reg ^ *byte)];
     }
     reg
 }
 
 // The registration check passes exactly for 8 bytes whose CRC is zero.
+#[tactic(auto, unfolding(crate::specs::Crc::registration_check))]
 pub fn registration_check(code: &[u8]) -> bool
     ensures { result ≡ registration_check code.now }
 {
-    if code.len() == 8 {
-        crc_from(0, code) == 0
-    } else {
-        false
-    }
+    code.len() == 8 && crc_from(0, code) == 0
 }

@@ -18,11 +18,10 @@ use Rattle.device.proofs.Laws.{going-on-steps, going-on-writes, going-on-copies}
 use Rattle.bus.specs.declared.Event.{Event}
 use Rattle.bus.specs.declared.Event.TheVariants.{Slot, Reset, Pulse, OverdriveSlot, OverdriveReset}
 use Rattle.bus.specs.declared.Place.{Place}
-use Rattle.bus.specs.declared.SlotTurn.{SlotTurn}
 use Rattle.bus.specs.Bus.{Device, event_of, hears, unheard_state, next_state, next_body, copied_in, is_slot, is_overdrive}
 use Rattle.bus.specs.Loops.{heard_state_as_is, heard_body_as_is, heard_copied_as_is, slot_byte, kind_in, body_in, ends_in, shifts_in, pass_state}
 use Rattle.bus.specs.Loops.{next_state_as_is, next_body_as_is, passed_over, place_in, device_at_place, device_in, image_with_body, turn_state, turn_image}
-use Rattle.bus.specs.Loops.{slot_turn, copied_as_is, turn_copied, most_copied, added_to, copied_up_to}
+use Rattle.bus.specs.Loops.{copied_as_is, turn_copied, most_copied, added_to, copied_up_to}
 use Rattle.bus.specs.Loops.{line_at, BusState, bus_state, turn_at, turns_up_to, turn_states_from, turn_states_of}
 use Rattle.bus.proofs.Laws.{Inside, place_inside}
 use Rattle.bus.proofs.Ranges.{InRange, as-it-is-state, as-it-is-body, as-it-is-copied}
@@ -30,6 +29,10 @@ use Rattle.bus.proofs.Ranges.{InRange, as-it-is-state, as-it-is-body, as-it-is-c
 both : (a b : Bool) → (a && b) ≡ true → (a ≡ true) × (b ≡ true)
 both true b e = (refl, e)
 both false b e = absurd (true≢false (sym e))
+
+either-none : (b : Bool) → ◌≡◌ {A = ℕ} (cond b 0 0) 0
+either-none true = refl
+either-none false = refl
 
 -- a body put back where it was
 pub same_body : (image : List ℕ) (place : Place) → Inside place (length image)
@@ -144,10 +147,6 @@ module _ (byte : ℕ) (h : 2 ≤ byte) (image : List ℕ) (i : ℕ) (state : Lin
   unfolding turn_image next_body_as_is device_in device_at_place
   unheard-image = rw (deaf-not-passed byte state deaf, deaf) (same_body image (place_in image i) (place_inside image i))
 
-  unheard-copied : turn_copied image i state byte level ≡ 0
-  unfolding turn_copied copied_as_is device_in device_at_place
-  unheard-copied = rw (deaf-not-passed byte state deaf, deaf)
-
 -- one that hears it
 module _ (byte : ℕ) (other : is_slot (event_of byte) ≡ false) (image : List ℕ) (i : ℕ) (state : LineState)
     (heard : hears (event_of byte) state ≡ true) (level : Bool) where
@@ -159,18 +158,6 @@ module _ (byte : ℕ) (other : is_slot (event_of byte) ≡ false) (image : List 
       ≡ image_with_body image (place_in image i) (heard_body_as_is (event_of byte) level (device_in image i state))
   unfolding turn_image next_body_as_is device_in device_at_place
   heard-image = rw (other-not-passed byte state other, heard)
-
-  pub heard-copied : turn_copied image i state byte level ≡ heard_copied_as_is (event_of byte) level (device_in image i state)
-  unfolding turn_copied copied_as_is device_in device_at_place
-  heard-copied = rw (other-not-passed byte state other, heard)
-
-  -- what is left by its event is its turn
-  pub heard-turn : (event : Event) → event_of byte ≡ event → (turn : SlotTurn) (left : List ℕ)
-      → (turn ≡ slot_turn (heard_state_as_is event level (device_in image i state)) (heard_copied_as_is event level (device_in image i state)))
-      × (left ≡ image_with_body image (place_in image i) (heard_body_as_is event level (device_in image i state)))
-      → (turn ≡ slot_turn (turn_state image i state byte level) (turn_copied image i state byte level))
-      × (left ≡ turn_image image i state byte level)
-  heard-turn event e turn left so = (rw (heard-state, heard-copied, e) so.0, rw (heard-image, e) so.1)
 
 -- ---- a slot at either speed
 
@@ -403,33 +390,6 @@ slot-bytes P (suc (suc (suc (suc (suc (suc zero)))))) e p q r s = absurd (true�
 slot-bytes P (suc (suc (suc (suc (suc (suc (suc byte))))))) e p q r s =
     absurd (true≢false (sym e ∙ ap is_slot (over-six (suc (suc (suc (suc (suc (suc (suc byte))))))) (omega arith))))
 
--- the tests for them
-pub slot-test : (byte : ℕ) → ((ltb byte 2 || eqb byte 4) || eqb byte 5) ≡ is_slot (event_of byte)
-unfolding is_slot event_of
-slot-test zero = refl
-slot-test (suc zero) = refl
-slot-test (suc (suc zero)) = refl
-slot-test (suc (suc (suc zero))) = refl
-slot-test (suc (suc (suc (suc zero)))) = refl
-slot-test (suc (suc (suc (suc (suc zero))))) = refl
-slot-test (suc (suc (suc (suc (suc (suc zero)))))) = refl
-slot-test (suc (suc (suc (suc (suc (suc (suc byte))))))) =
-    let v = suc (suc (suc (suc (suc (suc (suc byte)))))) in
-    rw (over-six v (omega arith), le-ltb v 2 (omega arith), ne_eqb v 4 (λ z. absurd (omega arith)), ne_eqb v 5 (λ z. absurd (omega arith)))
-
-pub overdrive-test : (byte : ℕ) → (ltb 3 byte && ltb byte 7) ≡ is_overdrive (event_of byte)
-unfolding is_overdrive event_of
-overdrive-test zero = refl
-overdrive-test (suc zero) = refl
-overdrive-test (suc (suc zero)) = refl
-overdrive-test (suc (suc (suc zero))) = refl
-overdrive-test (suc (suc (suc (suc zero)))) = refl
-overdrive-test (suc (suc (suc (suc (suc zero))))) = refl
-overdrive-test (suc (suc (suc (suc (suc (suc zero)))))) = refl
-overdrive-test (suc (suc (suc (suc (suc (suc (suc byte))))))) =
-    let v = suc (suc (suc (suc (suc (suc (suc byte)))))) in
-    rw (lt-ltb 3 v (omega arith), le-ltb v 7 (omega arith), over-six v (omega arith))
-
 -- the byte that stands for the slots at the speed of a slot
 abbrev pub slot_of : ℕ → ℕ
 slot_of byte = slot_byte (is_overdrive (event_of byte))
@@ -470,14 +430,6 @@ module _ (level : Bool) (d : Device) where
   other-body-as-is (OverdriveSlot sent) e = absurd (true≢false e)
   other-body-as-is OverdriveReset e = refl
 
-  other-copied-as-is : (event : Event) → is_slot event ≡ false → copied_as_is event true d ≡ copied_as_is event level d
-  unfolding is_slot copied_as_is heard_copied_as_is
-  other-copied-as-is (Slot sent) e = absurd (true≢false e)
-  other-copied-as-is Reset e = refl
-  other-copied-as-is Pulse e = refl
-  other-copied-as-is (OverdriveSlot sent) e = absurd (true≢false e)
-  other-copied-as-is OverdriveReset e = refl
-
 module _ (image : List ℕ) (i : ℕ) (state : LineState) (level : Bool) (byte : ℕ) (other : is_slot (event_of byte) ≡ false) where
   other-state : turn_state image i state byte true ≡ turn_state image i state byte level
   unfolding turn_state
@@ -489,10 +441,6 @@ module _ (image : List ℕ) (i : ℕ) (state : LineState) (level : Bool) (byte :
       ap (λ (body : List ℕ). cond (passed_over byte state) image (image_with_body image (place_in image i) body))
       (other-body-as-is level (device_in image i state) (event_of byte) other)
 
-  other-copied : turn_copied image i state byte true ≡ turn_copied image i state byte level
-  unfolding turn_copied
-  other-copied = ap (cond (passed_over byte state) 0) (other-copied-as-is level (device_in image i state) (event_of byte) other)
-
 -- ---- an event that is not a slot
 
 pub other-over : (byte : ℕ) → is_slot (event_of byte) ≡ false → 2 ≤ byte
@@ -502,16 +450,13 @@ other-over (suc zero) e = absurd (true≢false e)
 other-over (suc (suc byte)) e = omega arith
 
 -- one that is not a reset is the pulse
-pub other-pulse : (byte : ℕ) → is_slot (event_of byte) ≡ false → (byte ≡ 2 → ⊥) → (byte ≡ 6 → ⊥) → event_of byte ≡ Pulse
-unfolding is_slot event_of
-other-pulse zero e h k = absurd (true≢false e)
-other-pulse (suc zero) e h k = absurd (true≢false e)
-other-pulse (suc (suc zero)) e h k = absurd (h refl)
-other-pulse (suc (suc (suc zero))) e h k = refl
-other-pulse (suc (suc (suc (suc zero)))) e h k = absurd (true≢false e)
-other-pulse (suc (suc (suc (suc (suc zero))))) e h k = absurd (true≢false e)
-other-pulse (suc (suc (suc (suc (suc (suc zero)))))) e h k = absurd (k refl)
-other-pulse (suc (suc (suc (suc (suc (suc (suc byte))))))) e h k = over-six (suc (suc (suc (suc (suc (suc (suc byte))))))) (omega arith)
+pub other-pulse : (event : Event) → is_slot event ≡ false → (event ≡ Reset → ⊥) → (event ≡ OverdriveReset → ⊥) → event ≡ Pulse
+unfolding is_slot
+other-pulse (Slot sent) e h k = absurd (true≢false e)
+other-pulse Reset e h k = absurd (h refl)
+other-pulse Pulse e h k = refl
+other-pulse (OverdriveSlot sent) e h k = absurd (true≢false e)
+other-pulse OverdriveReset e h k = absurd (k refl)
 
 -- ---- a device that stays as it is is not stored again
 
@@ -535,11 +480,6 @@ module _ (byte : ℕ) (h : 2 ≤ byte) (level : Bool) (i : ℕ) where
   unfolding turn_at
   unheard-turn s deaf = λ j.
       bus_state (unheard-image byte h s.image i (line_at s.lines i) deaf level j) (unheard-line s.image s.lines deaf j)
-
-  pub unheard-copied-more : (sum : ℕ) (s : BusState) → hears (event_of byte) (line_at s.lines i) ≡ false
-      → added_to sum (turn_copied s.image i (line_at s.lines i) byte level) ≡ sum
-  unheard-copied-more sum s deaf =
-      ap (added_to sum) (unheard-copied byte h s.image i (line_at s.lines i) deaf level) ∙ added_none sum
 
 -- ---- the same of all devices
 
@@ -595,10 +535,25 @@ module _ (byte : ℕ) (level : Bool) (other : is_slot (event_of byte) ≡ false)
       turns_same byte byte true level (λ image i state. other-state image i state level byte other)
       (λ image i state. other-image image i state level byte other)
 
-  pub copied-other : (n : ℕ) (s : BusState) → copied_up_to byte true n s ≡ copied_up_to byte level n s
-  copied-other =
-      all-copied-same byte byte true level (λ image i state. other-state image i state level byte other)
-      (λ image i state. other-image image i state level byte other) (λ image i state. other-copied image i state level byte other)
+  -- in which no byte is copied
+  copies-nothing : (event : Event) → is_slot event ≡ false → (d : Device) → copied_as_is event level d ≡ 0
+  unfolding is_slot copied_as_is heard_copied_as_is
+  copies-nothing (Slot sent) e d = absurd (true≢false e)
+  copies-nothing Reset e d = either-none (hears Reset d.state)
+  copies-nothing Pulse e d = either-none (hears Pulse d.state)
+  copies-nothing (OverdriveSlot sent) e d = absurd (true≢false e)
+  copies-nothing OverdriveReset e d = either-none (hears OverdriveReset d.state)
+
+  pub copied-none : (n : ℕ) (s : BusState) → copied_up_to byte level n s ≡ 0
+  unfolding copied_up_to turn_copied
+  copied-none zero s = refl
+  copied-none (suc n) s =
+      let before : BusState = turns_up_to byte level n s in
+      let state : LineState = line_at before.lines n in
+      ap (λ (sum : ℕ). added_to sum (turn_copied before.image n state byte level)) (copied-none n s)
+      ∙ ap (λ (bytes : ℕ). added_to 0 (cond (passed_over byte state) 0 bytes)) (copies-nothing (event_of byte) other (device_in before.image n state))
+      ∙ ap (added_to 0) (either-none (passed_over byte state))
+      ∙ added_none 0
 
   pub states-other : (image : List ℕ) (lines : List LineState) (n : ℕ)
       → turn_states_of image lines n byte true ≡ turn_states_of image lines n byte level

@@ -1,17 +1,21 @@
 -- Laws that the proofs of this crate cite. Assumes nothing.
 use Prim.Native.Nat.{ℕ, zero, suc, ◌+◌, ◌-◌, ◌*◌, ◌^◌, ◌<◌, ◌≤◌}
+use Rattle.std.proofs.Common.{min}
 use mathlib.Core.Path.{◌≡◌, refl, sym, ap, subst, ◌∙◌}
-use mathlib.Core.Bool.{Bool, true, false, not, cond, ◌&&◌, ◌||◌, or_assoc, or-false, true≢false}
+use mathlib.Core.Bool.{Bool, true, false, not, cond, ◌&&◌, ◌||◌, or_assoc, true≢false}
 use mathlib.Core.List.{List, [], ◌∷◌, ◌++◌}
 use native.Mathlib.Omega.{arith}
 use native.Mathlib.Numerals.{add-one}
-use lib.ListN.{length, get_or, take, drop, drop_of_length-le, length-set, length-append, length-drop}
+use lib.ListN.{length, get_or, take, drop, length-set, length-append, length-drop}
 use lib.Seq.{drop-cons, length-take-le}
 use lib.Dec.{eqb, ltb, leb, lit<}
 use borrow.Author.Tests.{leb-true, ltb-true, ltb-false, le-ltb}
 use Rattle.kind.specs.declared.Kind.TheVariants.{Unknown}
 use Rattle.kind.specs.Kind.{body_size}
 use Rattle.image.specs.Image.{count_of, kind_at, offset_at}
+use Rattle.image.specs.declared.Refusal.{Refusal}
+use Rattle.image.specs.declared.Refusal.TheVariants.{MalformedImage, MisplacedBody, WrongCode, EqualCodes, BadTrace, NoFirstReset, BadPulse, NoRoom}
+use Rattle.image.specs.Refusal.{refusal_number}
 use Rattle.image.specs.Refusal.{Cause, cause, first_cause, image_causes, image_refusal}
 use Rattle.device.specs.declared.LineState.{LineState}
 use Rattle.bus.specs.Refusal.{some_byte, bad_trace, no_first_reset, bad_pulse, no_run_room, run_causes, run_refusal}
@@ -65,16 +69,7 @@ byte_more p trace k found h inv =
     let next : some_byte p (drop k trace) ≡ (p (get_or trace k 0) || some_byte p (drop (k + 1) trace)) = rw add-one (ap (some_byte p) (drop-cons trace k 0 h)) in
     or_assoc found (p (get_or trace k 0)) (some_byte p (drop (k + 1) trace)) ∙ ap (λ (b : Bool). found || b) (sym next) ∙ inv
 
-pub byte-end : (p : ℕ → Bool) (trace : List ℕ) (k : ℕ) (found : Bool) → length trace ≤ k → (found || some_byte p (drop k trace)) ≡ some_byte p trace → found ≡ some_byte p trace
-unfolding some_byte
-byte-end p trace k found h inv = sym (or-false found) ∙ ap (λ (l : List ℕ). found || some_byte p l) (sym (drop_of_length-le trace h)) ∙ inv
-
 -- ---- the first event of a trace
-
-pub no-first-event : (trace : List ℕ) → length trace ≡ 0 → no_first_reset trace ≡ false
-unfolding no_first_reset
-no-first-event [] e = refl
-no-first-event (byte ∷ trace) e = absurd (omega arith)
 
 pub first-event : (trace : List ℕ) → 0 < length trace → no_first_reset trace ≡ not (eqb (get_or trace 0 0) 2)
 unfolding no_first_reset
@@ -125,6 +120,18 @@ unfolding run_refusal run_causes image_causes image_refusal first_cause
 run-causes image trace answers lines h =
     first-none (image_causes image) (causes-left image trace answers lines)
     (lit< tt, (lit< tt, (lit< tt, (lit< tt, (lit< tt, tt))))) h
+
+-- no refusal has the number of what is not refused
+pub refusal-some : (refusal : Refusal) → refusal_number refusal ≡ 0 → ⊥
+unfolding refusal_number
+refusal-some MalformedImage e = absurd (omega arith)
+refusal-some MisplacedBody e = absurd (omega arith)
+refusal-some WrongCode e = absurd (omega arith)
+refusal-some EqualCodes e = absurd (omega arith)
+refusal-some BadTrace e = absurd (omega arith)
+refusal-some NoFirstReset e = absurd (omega arith)
+refusal-some BadPulse e = absurd (omega arith)
+refusal-some NoRoom e = absurd (omega arith)
 
 -- what is not refused: an accepted image, a trace of events that all devices take, and room
 pub record Admitted (image trace : List ℕ) (answers lines : ℕ) : Type 0 where
@@ -288,6 +295,16 @@ step-on n byte s h =
     ap (λ (m : ℕ). turns_up_to byte (level_on s.lines n byte) m s) (fewer-first n (length s.lines) h)
 
 -- ---- the sums of bytes copied
+
+-- one that saturates is such a sum
+saturated-at : (sum bytes : ℕ) (t : Bool) → ltb (most_copied - sum) bytes ≡ t → sum < 2 ^ 64
+    → min (sum + bytes) (2 ^ 64 - 1) ≡ cond t most_copied (sum + bytes)
+saturated-at sum bytes true e h = omega (arith, ltb-true (most_copied - sum) bytes e, h)
+saturated-at sum bytes false e h = omega (arith, ltb-false (most_copied - sum) bytes e, h)
+
+pub saturated : (sum bytes : ℕ) → sum < 2 ^ 64 → min (sum + bytes) (2 ^ 64 - 1) ≡ added_to sum bytes
+unfolding added_to
+saturated sum bytes h = saturated-at sum bytes (ltb (most_copied - sum) bytes) refl h
 
 added-at : (sum bytes : ℕ) (t : Bool) → ltb (most_copied - sum) bytes ≡ t → sum ≤ most_copied
     → cond t most_copied (sum + bytes) ≤ most_copied

@@ -9,4 +9,3 @@ pub mod Runs
 pub mod Shown
 pub mod Shifts
 pub mod States
-pub mod Tests

@@ -1,7 +1,7 @@
 -- What the loops of `src/` keep from turn to turn, as their invariants say it: `shift_all` goes past devices, `slot_all`
 -- and `turn_all` give each its turn, `read_slot_all` and `read_turn_all` leave the line states alone, and `run_events`
 -- goes from event to event. A line state that a loop reads is `get_or` at a default of the compiler's choice.
-use Rattle.std.proofs.Common.{◌≡◌, ℕ, suc, ◌+◌, ◌-◌, ◌<◌, ◌≤◌, Bool, true, false, List, length, get_or, set, refl, sym, ap, ◌∙◌, add-one, arith}
+use Rattle.std.proofs.Common.{◌≡◌, ℕ, suc, ◌+◌, ◌-◌, ◌^◌, min, ◌<◌, ◌≤◌, Bool, true, false, List, length, get_or, set, refl, sym, ap, ◌∙◌, add-one, arith}
 use Rattle.std.proofs.lemmas.List.{get_or_default}
 use package.mir.Val.{bool_byte}
 use Rattle.bits.specs.Bit.{level_byte}
@@ -12,8 +12,10 @@ use Rattle.bus.specs.Bus.{event_of, is_slot, hears}
 use Rattle.bus.specs.Loops.{slot_byte, ends_in, pass_state, passes_from, shifted_from, line_at, BusState, bus_state}
 use Rattle.bus.specs.Loops.{level_on, scan_on, step_on, copied_on, event_result, RunState, run_state, run_event_at, run_events_up_to, copied_by_events}
 use Rattle.bus.specs.Loops.{turn_state, turn_image, turn_copied, turn_at, turns_up_to, copied_up_to, added_to}
-use Rattle.bus.proofs.Idle.{other-over, unheard-line, unheard-turn, unheard-copied-more}
-use Rattle.bus.proofs.Laws.{step-on}
+use Rattle.bus.specs.Loops.{heard_state_as_is, heard_body_as_is, place_in, device_in, image_with_body}
+use Rattle.bus.specs.declared.Event.{Event}
+use Rattle.bus.proofs.Idle.{other-over, unheard-line, unheard-turn, heard-state, heard-image}
+use Rattle.bus.proofs.Laws.{step-on, saturated, copied-fits, events-fit}
 use Rattle.bus.proofs.Shifts.{passes_on, passes-end, passes-few, passes_none, passes-stop, shifted_behind, shifts-turns, shifts-copied, shifts-steps}
 use Rattle.bus.proofs.States.{steps}
 
@@ -152,9 +154,9 @@ module _ (v : ℕ) (t : Bool) (i : ℕ) (s : BusState) (image : List ℕ) (ls : 
       ∙ sym (turn_next v t i s)
 
   pub turn_added : (sum more bytes : ℕ) → sum ≡ copied_up_to v t i s → bytes ≡ turn_copied image i (get_or ls i d) v t
-      → more ≡ added_to sum bytes → more ≡ copied_up_to v t (i + 1) s
+      → more ≡ min (sum + bytes) (2 ^ 64 - 1) → more ≡ copied_up_to v t (i + 1) s
   turn_added sum more bytes e g k =
-      k ∙ ap (λ (b : ℕ). added_to sum b) (g ∙ ap (λ (l : LineState). turn_copied image i l v t) read_here)
+      k ∙ saturated sum bytes (omega (arith, e, copied-fits v t i s)) ∙ ap (λ (b : ℕ). added_to sum b) (g ∙ ap (λ (l : LineState). turn_copied image i l v t) read_here)
       ∙ ap (λ (b : ℕ). added_to b (turn_copied image i (line_at ls i) v t)) e
       ∙ ap (λ (u : BusState). added_to (copied_up_to v t i s) (turn_copied u.image i (line_at u.lines i) v t)) so_far
       ∙ sym (copied_next v t i s)
@@ -168,31 +170,51 @@ step_done image v t i ys ls so_far d within next g =
     ∙ ap (λ (zs : List LineState). set zs i (turn_state image i (line_at zs i) v t)) so_far
     ∙ sym (steps_next image v t i ys)
 
--- a device that does not hear a reset or a program pulse
-module _ (v : ℕ) (other : is_slot (event_of v) ≡ false) (t : Bool) (i : ℕ) where
-  pub turn_deaf : (s : BusState) (image : List ℕ) (ls : List LineState) → bus_state image ls ≡ turns_up_to v t i s
-      → hears (event_of v) (line_at ls i) ≡ false
-      → bus_state image ls ≡ turns_up_to v t (i + 1) s
-  turn_deaf s image ls so_far deaf =
-      sym (unheard-turn v (other-over v other) t i (bus_state image ls) deaf)
-      ∙ ap (turn_at v t i) so_far
-      ∙ sym (turn_next v t i s)
+-- a reset or a program pulse, in which `event` is what the byte stands for: a device hears it or not
+module _ (v : ℕ) (other : is_slot (event_of v) ≡ false) (i : ℕ) where
+  module _ (s : BusState) (image : List ℕ) (ls : List LineState) (so_far : bus_state image ls ≡ turns_up_to v true i s)
+      (d : LineState) (within : i < length ls) (event : Event) (of_byte : event ≡ event_of v) where
+    pub turn_heard : hears event (get_or ls i d) ≡ true → (left : List ℕ) (next : LineState)
+        → left ≡ image_with_body image (place_in image i) (heard_body_as_is event true (device_in image i (get_or ls i d)))
+        → next ≡ heard_state_as_is event true (device_in image i (get_or ls i d))
+        → bus_state left (set ls i next) ≡ turns_up_to v true (i + 1) s
+    turn_heard heard left next e g =
+        let state : LineState = get_or ls i d in
+        let here : hears (event_of v) state ≡ true = ap (λ (u : Event). hears u state) (sym of_byte) ∙ heard in
+        turn_done v true i s image ls so_far d within left next
+        (e ∙ ap (λ (u : Event). image_with_body image (place_in image i) (heard_body_as_is u true (device_in image i state))) of_byte
+        ∙ sym (heard-image v other image i state here true))
+        (g ∙ ap (λ (u : Event). heard_state_as_is u true (device_in image i state)) of_byte
+        ∙ sym (heard-state v other image i state here true))
 
-  pub deaf_added : (s : BusState) (image : List ℕ) (ls : List LineState) → bus_state image ls ≡ turns_up_to v t i s
-      → hears (event_of v) (line_at ls i) ≡ false
-      → copied_up_to v t i s ≡ copied_up_to v t (i + 1) s
-  deaf_added s image ls so_far deaf =
-      sym (unheard-copied-more v (other-over v other) t i (copied_up_to v t i s) (bus_state image ls) deaf)
-      ∙ ap (λ (u : BusState). added_to (copied_up_to v t i s) (turn_copied u.image i (line_at u.lines i) v t)) so_far
-      ∙ sym (copied_next v t i s)
+    pub turn_unheard : hears event (get_or ls i d) ≡ false → bus_state image ls ≡ turns_up_to v true (i + 1) s
+    turn_unheard deaf =
+        let here : hears (event_of v) (line_at ls i) ≡ false =
+        ap (hears (event_of v)) (sym (get_or_default ls i d waiting_state within)) ∙ ap (λ (u : Event). hears u (get_or ls i d)) (sym of_byte) ∙ deaf in
+        sym (unheard-turn v (other-over v other) true i (bus_state image ls) here)
+        ∙ ap (turn_at v true i) so_far
+        ∙ sym (turn_next v true i s)
 
-  pub step_deaf : (image : List ℕ) (ys ls : List LineState) → ls ≡ steps image v t i ys
-      → hears (event_of v) (line_at ls i) ≡ false
-      → ls ≡ steps image v t (i + 1) ys
-  step_deaf image ys ls so_far deaf =
-      sym (unheard-line v (other-over v other) t i image ls deaf)
-      ∙ ap (λ (zs : List LineState). set zs i (turn_state image i (line_at zs i) v t)) so_far
-      ∙ sym (steps_next image v t i ys)
+  -- the line states alone
+  module _ (image : List ℕ) (ys ls : List LineState) (so_far : ls ≡ steps image v true i ys)
+      (d : LineState) (within : i < length ls) (event : Event) (of_byte : event ≡ event_of v) where
+    pub step_heard : hears event (get_or ls i d) ≡ true → (next : LineState)
+        → next ≡ heard_state_as_is event true (device_in image i (get_or ls i d))
+        → set ls i next ≡ steps image v true (i + 1) ys
+    step_heard heard next g =
+        let state : LineState = get_or ls i d in
+        let here : hears (event_of v) state ≡ true = ap (λ (u : Event). hears u state) (sym of_byte) ∙ heard in
+        step_done image v true i ys ls so_far d within next
+        (g ∙ ap (λ (u : Event). heard_state_as_is u true (device_in image i state)) of_byte
+        ∙ sym (heard-state v other image i state here true))
+
+    pub step_unheard : hears event (get_or ls i d) ≡ false → ls ≡ steps image v true (i + 1) ys
+    step_unheard deaf =
+        let here : hears (event_of v) (line_at ls i) ≡ false =
+        ap (hears (event_of v)) (sym (get_or_default ls i d waiting_state within)) ∙ ap (λ (u : Event). hears u (get_or ls i d)) (sym of_byte) ∙ deaf in
+        sym (unheard-line v (other-over v other) true i image ls here)
+        ∙ ap (λ (zs : List LineState). set zs i (turn_state image i (line_at zs i) v true)) so_far
+        ∙ sym (steps_next image v true i ys)
 
 -- ---- `run_events`
 
@@ -242,11 +264,11 @@ module _ (trace : List ℕ) (n k : ℕ) (s : RunState) (image answers : List ℕ
   event_done left xs e g =
       one_event left xs e g ∙ ap (run_event_at (get_or trace k 0) n k) so_far ∙ sym (event_next trace n k s)
 
-  pub event_added : (sum more : ℕ) → sum ≡ copied_by_events trace n k s → more ≡ added_to sum result.copied
+  pub event_added : (sum more : ℕ) → sum ≡ copied_by_events trace n k s → more ≡ min (sum + result.copied) (2 ^ 64 - 1)
       → more ≡ copied_by_events trace n (k + 1) s
   event_added sum more e g =
       let byte : ℕ = get_or trace k 0 in
-      g ∙ ap (λ (r : EventResult). added_to sum r.copied) result_is
+      g ∙ saturated sum result.copied (omega (arith, e, events-fit trace n k s)) ∙ ap (λ (r : EventResult). added_to sum r.copied) result_is
       ∙ ap (λ (b : ℕ). added_to b (copied_on n byte (bus_state image ls))) e
       ∙ ap (λ (u : RunState). added_to (copied_by_events trace n k s) (copied_on n byte (bus_state u.image u.lines))) so_far
       ∙ sym (event_copied trace n k s)

@@ -1,7 +1,7 @@
 -- Where the image is not refused and there is room, what the loops of `specs/Loops.antt` do is what `specs/Bus.antt` and `specs/Run.antt` say.
 use Prim.Native.Nat.{ℕ, zero, suc, ◌+◌, ◌-◌, ◌*◌, ◌<◌, ◌≤◌}
 use mathlib.Core.Path.{◌≡◌, refl, sym, ap, subst, ◌∙◌}
-use mathlib.Core.Bool.{Bool, true, false, cond, not, ◌&&◌}
+use mathlib.Core.Bool.{Bool, true, false, cond, ◌&&◌, not}
 use mathlib.Core.List.{List, [], ◌∷◌, ◌++◌, map, append_assoc, append-nil, map-append}
 use native.Mathlib.Omega.{arith}
 use native.Mathlib.Nat.{add-zero}
@@ -13,6 +13,7 @@ use borrow.Author.Tests.{lt-ltb, le-ltb, le-leb}
 use Rattle.kind.specs.declared.Kind.{Kind}
 use Rattle.kind.specs.declared.Kind.TheVariants.{Unknown}
 use Rattle.kind.specs.Kind.{kind_of, body_size, code_length, is_flat}
+use Rattle.image.proofs.Counted.{some_refusal}
 use Rattle.image.specs.Image.{count_of, edition_of, family_at, second_at, offset_at, flat_at, kind_at, packed_at, body_at, code_at}
 use Rattle.image.specs.Refusal.{image_refusal}
 use Rattle.image.proofs.Accepted.{Known, accepted-known, body-length, body-code}
@@ -27,7 +28,10 @@ use Rattle.bus.specs.Refusal.{some_byte, bad_trace, no_first_reset, bad_pulse, r
 use Rattle.bus.specs.Loops.{passed_over, next_state_as_is, next_body_as_is, place_in, device_at_place, device_in, image_with_body, turn_state, turn_image, level_as_is, level_on, line_at, BusState, bus_state, turn_at, turns_up_to, filled_up_to, RunState, run_state, run_event_at, run_events_up_to}
 use Rattle.bus.specs.Loops.{looked_as_is, looked_on, fewer_of}
 use Rattle.bus.specs.Loops.{copied_as_is, turn_copied, most_copied, added_to, copied_up_to, copied_on, copied_by_events}
-use Rattle.bus.specs.declared.RunResult.{RunResult}
+use Rattle.std.specs.Prelude.{Err}
+use Rattle.image.specs.declared.Refusal.{Refusal}
+use Rattle.image.specs.Refusal.{refusal_number}
+use Rattle.bus.specs.Run.{RunResult, run_told}
 use Rattle.device.proofs.Range.{waiting-in-range}
 use Rattle.bus.proofs.Laws.{admitted, not-refused, short-trace, fewer-first}
 use Rattle.bus.proofs.Ranges.{InRange, AllIn, as-it-is-state, as-it-is-body, level-as-it-is, part_in, in-at, run_in}
@@ -535,10 +539,18 @@ unfolding run_at
 refused-at zero trace image answers lines t = absurd t
 refused-at (suc m) trace image answers lines t = refl
 
-pub run-refused : (trace image answers : List ℕ) (lines : List LineState) → T (not (eqb (run_refusal image trace (length answers) (length lines)) 0))
-    → run_outcome (run_result (run_refusal image trace (length answers) (length lines)) 0) image answers lines ≡ run_of image trace answers lines
+-- an `Err` tells its refusal's number, which is not 0
+refusal-at : (refusal : Refusal) (trace image answers : List ℕ) (lines : List LineState)
+    → run_outcome (run_told (Err refusal)) image answers lines ≡ run_at (refusal_number refusal) image trace answers lines
+unfolding run_told
+refusal-at refusal trace image answers lines = refused-at (refusal_number refusal) trace image answers lines (some_refusal refusal)
+
+pub run-refused : (refusal : Refusal) (trace image answers : List ℕ) (lines : List LineState)
+    → refusal_number refusal ≡ run_refusal image trace (length answers) (length lines)
+    → run_outcome (run_told (Err refusal)) image answers lines ≡ run_of image trace answers lines
 unfolding run_of
-run-refused trace image answers lines t = refused-at (run_refusal image trace (length answers) (length lines)) trace image answers lines t
+run-refused refusal trace image answers lines e =
+    refusal-at refusal trace image answers lines ∙ ap (λ (m : ℕ). run_at m image trace answers lines) e
 
 -- what a run left, as one equation and as an equation for each thing
 pub run-leaves : (left : RunOutcome) (result : RunResult) (image answers : List ℕ) (lines : List LineState)

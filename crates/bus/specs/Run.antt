@@ -1,10 +1,12 @@
 -- Document 01, 'The trace and its levels' and 'Refusals in order', and document 02, item 4, are stated here: what a run
 -- returns and leaves, for every image, trace and room.
 use Rattle.std.specs.Prelude.{ℕ, zero, suc, ◌+◌, ◌*◌, ◌≡◌, List, [], ◌∷◌, ◌++◌, map, length, take, drop, replicate}
+use Rattle.std.specs.Prelude.{Result, Ok, Err}
+use Rattle.image.specs.declared.Refusal.{Refusal}
+use Rattle.image.specs.Refusal.{refusal_number}
 use Rattle.image.specs.Image.{count_of, kind_at, body_at}
 use Rattle.device.specs.declared.LineState.{LineState}
 use Rattle.device.specs.Device.{waiting_state}
-use Rattle.bus.specs.declared.RunResult.{RunResult}
 use Rattle.bus.specs.Bus.{Device, device_with, Run, run_trace, copied_in_trace}
 use Rattle.bus.specs.Refusal.{run_refusal}
 
@@ -30,8 +32,17 @@ abbrev pub states_of : List Device → List LineState
 states_of ds = map (λ d. d.state) ds
 
 -- A run answers its number (0 where it is not refused) and the bytes copied (document 02, item 4).
+pub record RunResult : Type 0 where
+  pub number : ℕ
+  pub copied : ℕ
+
 abbrev pub run_result : ℕ → ℕ → RunResult
 run_result number copied = record { number = number; copied = copied }
+
+-- What a run returns says this: it is not refused and has copied so many bytes, or it is refused and has copied none.
+unfoldable pub run_told : Result ℕ Refusal → RunResult
+run_told (Ok copied) = run_result 0 copied
+run_told (Err refusal) = run_result (refusal_number refusal) 0
 
 -- A run leaves that, the image, the answers and the line states.
 pub record RunOutcome : Type 0 where

@@ -7,7 +7,7 @@ use mathlib.Core.List.{List}
 use Rattle.kind.specs.declared.Kind.{Kind}
 use Rattle.kind.specs.Kind.{memory_size}
 use Rattle.line.specs.declared.RomStage.{RomStage}
-use Rattle.line.specs.declared.MemoryStage.TheVariants.{Command, Sram, Eprom}
+use Rattle.line.specs.declared.MemoryStage.TheVariants.{Sram, Eprom}
 use Rattle.line.specs.declared.Stage.{Stage}
 use Rattle.line.specs.declared.Stage.TheVariants.{Rom, Memory}
 use Rattle.line.specs.Transfers.{goes_on, received}
@@ -23,25 +23,19 @@ use Rattle.device.specs.Device.{body_after_slot_as_is, body_after_reset_as_is, b
 stage-write : (stage : Stage) (kind : Kind) (value : ℕ) (body : List ℕ) (level : Bool)
     → Keeps body (stage_write stage kind value body level)
 unfolding stage_write memory_write
-stage-write (Rom r) kind value body level = kept
-stage-write (Memory Command) kind value body level = kept
 stage-write (Memory (Sram s)) kind value body level = sram.write_keeps s (memory_size kind) value body level
-stage-write (Memory (Eprom e)) kind value body level = kept
+stage-write _ kind value body level = kept
 
 stage-reset : (stage : Stage) (body : List ℕ) → Keeps body (stage_reset stage body)
 unfolding stage_reset memory_reset
-stage-reset (Rom r) body = kept
-stage-reset (Memory Command) body = kept
 stage-reset (Memory (Sram s)) body = sram.reset-keeps s body
-stage-reset (Memory (Eprom e)) body = kept
+stage-reset _ body = kept
 
 stage-program : (stage : Stage) (body : List ℕ) → Keeps body (stage_program stage body)
 unfolding stage_program memory_program
-stage-program (Rom r) body = kept
-stage-program (Memory Command) body = kept
-stage-program (Memory (Sram s)) body = kept
 stage-program (Memory (Eprom e)) body =
     record { same_length = eprom.program-length e body; same_code = eprom.program-code e body }
+stage-program _ body = kept
 
 -- ---- by the line state
 

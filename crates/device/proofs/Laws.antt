@@ -12,13 +12,13 @@ use Rattle.kind.specs.declared.Kind.{Kind}
 use Rattle.kind.specs.Kind.{body_size, code_length, memory_size, is_flat, speed_known}
 use Rattle.line.specs.declared.RomStage.{RomStage}
 use Rattle.line.specs.declared.RomStage.TheVariants.{Waiting}
-use Rattle.line.specs.declared.MemoryStage.TheVariants.{Command, Sram, Eprom}
+use Rattle.line.specs.declared.MemoryStage.TheVariants.{Sram}
 use Rattle.line.specs.declared.Stage.{Stage}
 use Rattle.line.specs.declared.Stage.TheVariants.{Rom, Memory}
 use Rattle.line.specs.Transfers.{waiting, at_memory_command, transfer_sends, goes_on, received, shifted}
 use Rattle.line.proofs.Range.{both}
-use Rattle.sram.specs.declared.CopyDone.{CopyDone}
-use Rattle.sram.specs.declared.CopyDone.TheVariants.{NoCopy}
+use Rattle.std.specs.Prelude.{Option, None}
+use Rattle.sram.specs.declared.Written.{Written}
 use Rattle.sram.specs.Sram.{bytes_copied}
 use Rattle.sram.proofs.Laws.{copied-most}
 use Rattle.rom.specs.Rom.{addressed, rom_next, rom_speed}
@@ -153,10 +153,8 @@ module _ (state : LineState) (kind : Kind) (body : List ℕ) (level : Bool) (mor
 stage-copies : (stage : Stage) (kind : Kind) (value : ℕ) (body : List ℕ)
     → bytes_copied (stage_copy stage kind value body) ≤ 32
 unfolding stage_copy memory_copy bytes_copied
-stage-copies (Rom r) kind value body = omega arith
-stage-copies (Memory Command) kind value body = omega arith
 stage-copies (Memory (Sram s)) kind value body = copied-most s (memory_size kind) value body
-stage-copies (Memory (Eprom e)) kind value body = omega arith
+stage-copies _ kind value body = omega arith
 
 most-in-slot : (state : LineState) (kind : Kind) (body : List ℕ) (level : Bool)
     → bytes_in_slot_as_is state kind body level ≤ 32
@@ -166,7 +164,7 @@ most-in-slot state kind body level =
     choose (stage_copy t.stage kind (received t level) body) (goes_on t)
     (stage-copies t.stage kind (received t level) body)
   where
-    choose : (c : CopyDone) (more : Bool) → bytes_copied c ≤ 32 → bytes_copied (cond more NoCopy c) ≤ 32
+    choose : (c : Option Written) (more : Bool) → bytes_copied c ≤ 32 → bytes_copied (cond more None c) ≤ 32
     choose c true h = omega arith
     choose c false h = h
 
@@ -200,10 +198,10 @@ module _ (state : LineState) (r : RomStage) (in-rom : state.transfer.stage ≡ R
   unfolding bytes_in_slot_as_is copy_in_slot_as_is stage_copy bytes_copied
   rom-copies-as-is level =
       let t = state.transfer in
-      ap (λ (s : Stage). bytes_copied (cond (goes_on t) NoCopy (stage_copy s kind (received t level) body))) in-rom
+      ap (λ (s : Stage). bytes_copied (cond (goes_on t) None (stage_copy s kind (received t level) body))) in-rom
       ∙ none (goes_on t)
     where
-      none : (more : Bool) → bytes_copied (cond more NoCopy NoCopy) ≡ 0
+      none : (more : Bool) → bytes_copied (cond more None None) ≡ 0
       none true = refl
       none false = refl
 

@@ -142,14 +142,12 @@ stage-pulse : (stage : Stage) (kind : Kind) (overdrive : Bool) (register left : 
     → stage_range stage kind overdrive register left ≡ true
     → Ranged kind overdrive (stage_pulse stage (record { register = register; left = left; stage = stage }) body)
 unfolding stage_pulse memory_pulse stage_range memory_range is_eprom is_flat
-stage-pulse (Rom r) kind overdrive register left body h = h
-stage-pulse (Memory Command) kind overdrive register left body h = h
-stage-pulse (Memory (Sram s)) kind overdrive register left body h = h
 stage-pulse (Memory (Eprom e)) (kinds.Sram size true) overdrive register left body h = false-true h
 stage-pulse (Memory (Eprom e)) (kinds.Sram size false) overdrive register left body h = false-true h
 stage-pulse (Memory (Eprom e)) kinds.Eprom overdrive register left body h =
     from-eprom overdrive (eprom.pulse-ranged e register left body h)
 stage-pulse (Memory (Eprom e)) kinds.Unknown overdrive register left body h = false-true h
+stage-pulse _ kind overdrive register left body h = h
 
 -- ---- the line state
 

@@ -1,7 +1,7 @@
 -- Document 01, 'The trace and its levels', and document 02, items 4, 7 and 9, are stated here for one device: what it
 -- sends in a slot, what a slot, a reset and a program pulse leave of its line state (document 01's line record) and of
 -- its body, and what a copy did in a slot.
-use Rattle.std.specs.Prelude.{ℕ, Bool, false, not, cond, ◌&&◌, List, length, eqb}
+use Rattle.std.specs.Prelude.{ℕ, Bool, false, not, cond, ◌&&◌, List, length, eqb, Option, None}
 use Rattle.kind.specs.declared.Kind.{Kind}
 use Rattle.kind.specs.declared.Kind.TheVariants as kinds
 use Rattle.kind.specs.Kind.{body_size, memory_size, is_sram, is_eprom, is_flat, speed_known}
@@ -12,8 +12,7 @@ use Rattle.line.specs.declared.Stage.TheVariants.{Rom, Memory}
 use Rattle.line.specs.declared.Transfer.{Transfer}
 use Rattle.line.specs.Transfers.{waiting, at_rom_command, under_way, transfer_sends, goes_on, received, shifted}
 use Rattle.rom.specs.Rom.{rom_next, rom_speed, rom_range}
-use Rattle.sram.specs.declared.CopyDone.{CopyDone}
-use Rattle.sram.specs.declared.CopyDone.TheVariants.{NoCopy}
+use Rattle.sram.specs.declared.Written.{Written}
 use Rattle.sram.specs.Sram.{sram_command, sram_next, sram_write, bytes_copied, sram_copy, sram_reset, sram_range}
 use Rattle.eprom.specs.Eprom.{eprom_command, eprom_next, eprom_pulse, eprom_program, eprom_range}
 use Rattle.device.specs.declared.LineState.{LineState}
@@ -55,13 +54,13 @@ stage_write (Rom r) kind value body level = body
 stage_write (Memory m) kind value body level = memory_write m kind value body level
 
 -- When a transfer ends, only a memory function of a DS1992, DS1993 or DS1996 makes a copy.
-unfoldable pub memory_copy : MemoryStage → Kind → ℕ → List ℕ → CopyDone
-memory_copy Command kind value body = NoCopy
+unfoldable pub memory_copy : MemoryStage → Kind → ℕ → List ℕ → Option Written
+memory_copy Command kind value body = None
 memory_copy (Sram s) kind value body = sram_copy s (memory_size kind) value body
-memory_copy (Eprom e) kind value body = NoCopy
+memory_copy (Eprom e) kind value body = None
 
-unfoldable pub stage_copy : Stage → Kind → ℕ → List ℕ → CopyDone
-stage_copy (Rom r) kind value body = NoCopy
+unfoldable pub stage_copy : Stage → Kind → ℕ → List ℕ → Option Written
+stage_copy (Rom r) kind value body = None
 stage_copy (Memory m) kind value body = memory_copy m kind value body
 
 -- ---- a reset and a program pulse, by the stage
@@ -149,13 +148,13 @@ body_after_slot_as_is state kind body level =
     (stage_write state.transfer.stage kind (received state.transfer level) body level)
 
 -- Only the last slot of a transfer makes a copy.
-unfoldable pub copy_in_slot_as_is : LineState → Kind → List ℕ → Bool → CopyDone
+unfoldable pub copy_in_slot_as_is : LineState → Kind → List ℕ → Bool → Option Written
 copy_in_slot_as_is state kind body level =
-    cond (goes_on state.transfer) NoCopy
+    cond (goes_on state.transfer) None
     (stage_copy state.transfer.stage kind (received state.transfer level) body)
 
 -- A slot hands up the line state after it, and what a copy did in it (document 02, item 4).
-abbrev pub stepped : LineState → CopyDone → Stepped
+abbrev pub stepped : LineState → Option Written → Stepped
 stepped next copy = record { next = next; copy = copy }
 
 -- A reset changes the body as the stage in which it comes has it.
@@ -213,7 +212,7 @@ unfoldable pub body_after_slot : LineState → Kind → List ℕ → Bool → Li
 body_after_slot state kind body level = body_after_slot_as_is (or_waiting state kind body) kind body level
 
 -- This is what a copy of a device did in a slot in which the line had a level.
-unfoldable pub copy_in_slot : LineState → Kind → List ℕ → Bool → CopyDone
+unfoldable pub copy_in_slot : LineState → Kind → List ℕ → Bool → Option Written
 copy_in_slot state kind body level = copy_in_slot_as_is (or_waiting state kind body) kind body level
 
 -- This is the number of bytes that a device copies to its memory in a slot: as it is, and of any line state.

@@ -11,8 +11,8 @@
 
 ghost use Rattle.std.specs.Prelude.{◌≡◌};
 ghost use Rattle.line.specs.Transfers.{goes_on, last_slot, shifted};
-ghost use Rattle.device.specs.Device.{memory_command, memory_next, stage_next, memory_write, stage_write, memory_reset};
-ghost use Rattle.device.specs.Device.{stage_reset, memory_pulse, stage_pulse, memory_program, stage_program};
+ghost use Rattle.device.specs.Device.{memory_command, memory_next, stage_next, memory_write, stage_write};
+ghost use Rattle.device.specs.Device.{stage_reset, stage_pulse, stage_program};
 ghost use Rattle.sram.specs.Sram.{bytes_copied};
 ghost use Rattle.device.specs.Device.{memory_copy, stage_copy, copy_in_slot_as_is, copy_in_slot};
 ghost use Rattle.device.specs.Device.{stepped, line_state, reset_at, stage_speed};
@@ -25,7 +25,7 @@ ghost use Rattle.device.specs.Device.{body_after_pulse};
 
 use kind::Kind;
 use line::{MemoryStage, Stage, Transfer};
-use sram::CopyDone;
+use sram::Written;
 
 // A line state is where a device is on the line: document 01's line record.
 #[derive(Clone, Copy)]
@@ -35,26 +35,30 @@ pub struct LineState {
     pub overdrive: bool,
 }
 
-// A slot hands up the line state after it, and what a copy did in it.
+// A slot hands up the line state after it, and what a copy did in it, where one was made.
 #[derive(Clone, Copy)]
 pub struct Stepped {
     pub next: LineState,
-    pub copy: CopyDone,
+    pub copy: Option<Written>,
 }
 
 // ---- the end of a transfer, by the stage
 
+// As it is: kind, body, speed, byte and level are no struct, as the arms hand on other parts of it, some to be written.
+
 // A memory command leads to the first transfer of a memory function of the device's kind.
+#[tactic(auto, unfolding(crate::specs::Device::memory_command))]
 fn memory_command(kind: Kind, value: u8, body: &[u8]) -> Transfer
     ensures { result ≡ memory_command kind value body.now }
 {
     match kind {
-        Kind::Sram { size: _, flat: _ } => sram::command(value, body),
+        Kind::Sram { .. } => sram::command(value, body),
         Kind::Eprom => eprom::command(value),
         Kind::Unknown => line::waiting(),
     }
 }
 
+#[tactic(auto, unfolding(crate::specs::Device::memory_next))]
 fn memory_next(m: MemoryStage, kind: Kind, value: u8, body: &[u8]) -> Transfer
     ensures { result ≡ memory_next m kind value body.now }
 {
@@ -67,6 +71,7 @@ fn memory_next(m: MemoryStage, kind: Kind, value: u8, body: &[u8]) -> Transfer
 
 // When the transfer of a stage ends, in which `value` was received and whose last slot was at `level`, this transfer
 // follows it. The device was at overdrive in it where `overdrive` is true.
+#[tactic(auto, unfolding(crate::specs::Device::stage_next))]
 fn stage_next(
     stage: Stage,
     kind: Kind,
@@ -84,6 +89,8 @@ fn stage_next(
 }
 
 // This tells whether the device is then at overdrive: only a ROM stage changes the speed.
+// As it is: next and speed are two functions, as `rom_next` and `rom_speed` are two definitions, and most are plain.
+#[tactic(auto, unfolding(crate::specs::Device::stage_speed))]
 fn stage_speed(
     stage: Stage,
     kind: Kind,
@@ -100,14 +107,16 @@ fn stage_speed(
     }
 }
 
-fn stepped_to(transfer: Transfer, overdrive: bool, copy: CopyDone) -> Stepped
+fn stepped_to(transfer: Transfer, overdrive: bool, copy: Option<Written>) -> Stepped
     ensures { result ≡ stepped (line_state transfer overdrive) copy }
 {
-    let next = LineState {
-        transfer,
-        overdrive,
-    };
-    Stepped { next, copy }
+    Stepped {
+        next: LineState {
+            transfer,
+            overdrive,
+        },
+        copy,
+    }
 }
 
 // The next transfer is worked out from the body as it was: it comes before the body changes.
@@ -126,7 +135,7 @@ fn memory_end(
     match m {
         MemoryStage::Command => {
             let next = memory_command(kind, value, body);
-            stepped_to(next, overdrive, CopyDone::NoCopy)
+            stepped_to(next, overdrive, None)
         }
         MemoryStage::Sram(s) => {
             let size = kind::memory_size(kind);
@@ -136,7 +145,7 @@ fn memory_end(
         }
         MemoryStage::Eprom(e) => {
             let next = eprom::next(e, value, body);
-            stepped_to(next, overdrive, CopyDone::NoCopy)
+            stepped_to(next, overdrive, None)
         }
     }
 }
@@ -160,7 +169,7 @@ fn stage_end(
         Stage::Rom(r) => {
             let next = rom::next(r, kind, overdrive, value, body, level);
             let speed = rom::speed(r, kind, overdrive, value, body, level);
-            stepped_to(next, speed, CopyDone::NoCopy)
+            stepped_to(next, speed, None)
         }
         Stage::Memory(m) => memory_end(m, kind, overdrive, value, body, level),
     }
@@ -168,100 +177,71 @@ fn stage_end(
 
 // ---- a reset and a program pulse, by the stage
 
-fn memory_reset(m: MemoryStage, body: &mut [u8])
-    ensures { body.new ≡ memory_reset m body.old }
-{
-    match m {
-        MemoryStage::Command => {}
-        MemoryStage::Sram(s) => sram::reset(s, body),
-        MemoryStage::Eprom(_) => {}
-    }
-}
-
-// This changes the body as a reset does in a stage.
+// This changes the body as a reset does in a stage: only the memory function of a DS1992, DS1993 or DS1996 does.
+#[tactic(auto, unfolding(crate::specs::Device::stage_reset, crate::specs::Device::memory_reset))]
 fn stage_reset(stage: Stage, body: &mut [u8])
     ensures { body.new ≡ stage_reset stage body.old }
 {
-    match stage {
-        Stage::Rom(_) => {}
-        Stage::Memory(m) => memory_reset(m, body),
+    if let Stage::Memory(MemoryStage::Sram(s)) = stage {
+        sram::reset(s, body);
     }
 }
 
-fn memory_pulse(m: MemoryStage, transfer: Transfer, body: &[u8]) -> Transfer
-    ensures { result ≡ memory_pulse m transfer body.now }
-{
-    match m {
-        MemoryStage::Command => transfer,
-        MemoryStage::Sram(_) => transfer,
-        MemoryStage::Eprom(e) => eprom::pulse(e, transfer, body),
-    }
-}
-
-// This is the transfer after a program pulse that comes in a stage, in which `transfer` is under way.
+// This is the transfer after a program pulse that comes in a stage, in which `transfer` is under way. Only the memory
+// function of a DS1982 takes a pulse.
+#[tactic(auto, unfolding(crate::specs::Device::stage_pulse, crate::specs::Device::memory_pulse))]
 fn stage_pulse(stage: Stage, transfer: Transfer, body: &[u8]) -> Transfer
     ensures { result ≡ stage_pulse stage transfer body.now }
 {
     match stage {
-        Stage::Rom(_) => transfer,
-        Stage::Memory(m) => memory_pulse(m, transfer, body),
-    }
-}
-
-fn memory_program(m: MemoryStage, body: &mut [u8])
-    ensures { body.new ≡ memory_program m body.old }
-{
-    match m {
-        MemoryStage::Command => {}
-        MemoryStage::Sram(_) => {}
-        MemoryStage::Eprom(e) => eprom::program(e, body),
+        Stage::Memory(MemoryStage::Eprom(e)) => eprom::pulse(e, transfer, body),
+        _ => transfer,
     }
 }
 
 // This changes the body as a program pulse does in a stage.
+#[tactic(auto, unfolding(crate::specs::Device::stage_program, crate::specs::Device::memory_program))]
 fn stage_program(stage: Stage, body: &mut [u8])
     ensures { body.new ≡ stage_program stage body.old }
 {
-    match stage {
-        Stage::Rom(_) => {}
-        Stage::Memory(m) => memory_program(m, body),
+    if let Stage::Memory(MemoryStage::Eprom(e)) = stage {
+        eprom::program(e, body);
     }
 }
 
 // ---- the range, by the stage
 
+#[tactic(auto, unfolding(crate::specs::Device::memory_range))]
 fn memory_in_range(m: MemoryStage, kind: Kind, left: u8) -> bool
     ensures { result ≡ memory_range m kind left }
 {
     match m {
         MemoryStage::Command => line::under_way(8, left),
         MemoryStage::Sram(s) => {
-            kind::is_sram(kind) & sram::in_range(s, kind::memory_size(kind), left)
-        },
-        MemoryStage::Eprom(e) => kind::is_eprom(kind) & eprom::in_range(e, left),
+            kind::is_sram(kind) && sram::in_range(s, kind::memory_size(kind), left)
+        }
+        MemoryStage::Eprom(e) => kind::is_eprom(kind) && eprom::in_range(e, left),
     }
 }
 
 // A device with a flat battery is in no memory stage.
+#[tactic(auto, unfolding(crate::specs::Device::stage_range))]
 fn stage_in_range(stage: Stage, kind: Kind, overdrive: bool, register: u8, left: u8) -> bool
     ensures { result ≡ stage_range stage kind overdrive register left }
 {
     match stage {
         Stage::Rom(r) => rom::in_range(r, overdrive, register, left),
-        Stage::Memory(m) => !kind::is_flat(kind) & memory_in_range(m, kind, left),
+        Stage::Memory(m) => !kind::is_flat(kind) && memory_in_range(m, kind, left),
     }
 }
 
 impl Stepped {
     // This is the number of bytes that were copied to memory in the slot; it is 0 where no copy was made, too.
+    #[tactic(auto, unfolding(sram::specs::Sram::bytes_copied))]
     pub fn bytes(self) -> u8
         ensures { result ≡ bytes_copied self.copy }
     {
-        let copy = self.copy;
-        match copy {
-            CopyDone::NoCopy => 0,
-            CopyDone::Made { address: _, bytes } => bytes,
-        }
+        self.copy.map_or(0, |written| written.bytes)
     }
 }
 
@@ -293,10 +273,11 @@ impl LineState {
     pub fn waits(self) -> bool
         ensures { result ≡ waits self }
     {
-        (self.transfer.left | self.overdrive as u8) == 0
+        (self.transfer.left | u8::from(self.overdrive)) == 0
     }
 
     // This is the level that the device sends in a slot.
+    #[tactic(auto, unfolding(crate::specs::Device::sends_as_is, line::specs::Transfers::transfer_sends))]
     pub fn sends_as_is(self) -> bool
         ensures { result ≡ sends_as_is self }
     {
@@ -359,7 +340,7 @@ impl LineState {
         if self.goes_on() {
             return Stepped {
                 next: self.shifted(level),
-                copy: CopyDone::NoCopy,
+                copy: None,
             };
         }
         let transfer = self.transfer;
@@ -370,24 +351,22 @@ impl LineState {
 
     // A reset changes the body by the stage in which it comes, and leaves the device at the ROM command, at the speed
     // of the reset.
+    #[tactic(auto, unfolding(crate::specs::Device::body_after_reset_as_is))]
     pub fn reset_as_is(self, body: &mut [u8], overdrive: bool) -> LineState
         ensures { (result ≡ reset_at overdrive)
             × (body.new ≡ body_after_reset_as_is self body.old) }
     {
-        let transfer = self.transfer;
-        let stage = transfer.stage;
-        stage_reset(stage, body);
+        stage_reset(self.transfer.stage, body);
         LineState::at_reset(overdrive)
     }
 
     // This is the line state after a program pulse.
+    #[tactic(auto, unfolding(crate::specs::Device::state_after_pulse_as_is))]
     pub fn pulsed_as_is(self, body: &[u8]) -> LineState
         ensures { result ≡ state_after_pulse_as_is self body.now }
     {
-        let transfer = self.transfer;
-        let stage = transfer.stage;
         LineState {
-            transfer: stage_pulse(stage, transfer, body),
+            transfer: stage_pulse(self.transfer.stage, self.transfer, body),
             overdrive: self.overdrive,
         }
     }
@@ -399,15 +378,16 @@ impl LineState {
             × (body.new ≡ body_after_pulse_as_is self body.old) }
     {
         let next = self.pulsed_as_is(body);
-        let transfer = self.transfer;
-        let stage = transfer.stage;
-        stage_program(stage, body);
+        stage_program(self.transfer.stage, body);
         next
     }
 
     // ---- any line state
 
+    // As it is: each of these is another method after `or_waiting`, which one function for all would have to be given.
+
     // A line state is in range if it is one that the device can be in.
+    #[tactic(auto, unfolding(crate::specs::Device::line_state_in_range))]
     pub fn in_range(self, kind: Kind, body: &[u8]) -> bool
         ensures { result ≡ line_state_in_range self kind body.now }
     {
@@ -416,10 +396,11 @@ impl LineState {
         let overdrive = self.overdrive;
         let sized = body.len() == kind::body_size(kind);
         let known = kind::is_speed_known(kind, overdrive);
-        sized & (known & stage_in_range(stage, kind, overdrive, transfer.register, transfer.left))
+        sized && known && stage_in_range(stage, kind, overdrive, transfer.register, transfer.left)
     }
 
     // A line state that the device cannot be in counts as waiting. The test stands in this one place.
+    #[tactic(auto, unfolding(crate::specs::Device::or_waiting))]
     pub fn or_waiting(self, kind: Kind, body: &[u8]) -> LineState
         ensures { result ≡ or_waiting self kind body.now }
     {
@@ -431,6 +412,7 @@ impl LineState {
     }
 
     // This is the level that the device sends in a slot that it hears.
+    #[tactic(auto, unfolding(crate::specs::Device::sends_of))]
     pub fn sends(self, kind: Kind, body: &[u8]) -> bool
         ensures { result ≡ sends_of self kind body.now }
     {
@@ -438,6 +420,7 @@ impl LineState {
     }
 
     // This is the line state after a slot at a level; the body is only read.
+    #[tactic(auto, unfolding(crate::specs::Device::state_after_slot))]
     pub fn step(self, kind: Kind, body: &[u8], level: bool) -> LineState
         ensures { result ≡ state_after_slot self kind body.now level }
     {
@@ -456,6 +439,7 @@ impl LineState {
 
     // A reset that the device hears changes the body by the stage in which it comes, and leaves the device at the ROM
     // command, at the speed of the reset.
+    #[tactic(auto, unfolding(crate::specs::Device::body_after_reset))]
     pub fn reset(self, kind: Kind, body: &mut [u8], overdrive: bool) -> LineState
         ensures { (result ≡ reset_at overdrive)
             × (body.new ≡ body_after_reset self kind body.old) }
@@ -465,6 +449,7 @@ impl LineState {
     }
 
     // This is the line state after a program pulse; the body is only read.
+    #[tactic(auto, unfolding(crate::specs::Device::state_after_pulse))]
     pub fn pulsed(self, kind: Kind, body: &[u8]) -> LineState
         ensures { result ≡ state_after_pulse self kind body.now }
     {
@@ -472,6 +457,7 @@ impl LineState {
     }
 
     // A program pulse changes the body, and this returns the line state after it.
+    #[tactic(auto, unfolding(crate::specs::Device::state_after_pulse, crate::specs::Device::body_after_pulse))]
     pub fn pulse(self, kind: Kind, body: &mut [u8]) -> LineState
         ensures { (result ≡ state_after_pulse self kind body.old)
             × (body.new ≡ body_after_pulse self kind body.old) }

@@ -1,19 +1,17 @@
 -- Laws of the fields and of the view that the proofs of functions cite. Assumes nothing.
-use Prim.Native.Nat.{ℕ, ◌+◌, ◌-◌, ◌<◌, ◌≤◌}
+use Prim.Native.Nat.{ℕ, ◌+◌, ◌<◌, ◌≤◌}
 use mathlib.Core.Path.{◌≡◌}
-use mathlib.Core.Bool.{true, false}
+use mathlib.Core.Bool.{true}
 use mathlib.Core.List.{List}
-use mathlib.Core.Logic.{◌⊎◌, inl, inr}
-use lib.ListN.{length, take, drop, length-drop}
-use lib.Seq.{take_all}
-use borrow.Author.Tests.{eqb-true, ne_eqb}
+use lib.ListN.{length}
+use borrow.Author.Tests.{eqb-true}
 use native.Mathlib.Omega.{arith}
 use Rattle.kind.specs.Kind.{code_length, «data», data_length}
 use Rattle.line.proofs.Range.{both}
 use Rattle.line.specs.declared.Field.{Field}
 use Rattle.line.specs.declared.Field.TheVariants.{Data, Status}
 use Rattle.eprom.specs.Fields.{field_start, field_length, cut_address, body_length}
-use Rattle.eprom.specs.View.{fields_fit, names_data}
+use Rattle.eprom.specs.View.{fields_fit}
 
 -- ---- the fields
 
@@ -70,25 +68,3 @@ pub cut-within : (bytes status : List ℕ) → fields_fit bytes status ≡ true 
 cut-within bytes status h address =
     let fit = fit-lengths bytes status h in
     (omega (arith, fit.0, cut_below Data address), omega (arith, fit.1, cut_below Status address))
-
--- the arms of a `match` on the command
-pub named : (command : ℕ) → (command ≡ 0xC3) ⊎ (command ≡ 0xF0) → names_data command ≡ true
-unfolding names_data
-named command (inl e) = rw e
-named command (inr e) = rw e
-
-pub not_named : (command : ℕ) → ((command ≡ 0xC3) ⊎ (command ≡ 0xF0) → ⊥) → names_data command ≡ false
-unfolding names_data
-not_named command h =
-    rw (
-      ne_eqb command 0xF0 (λ (e : command ≡ 0xF0). h (inr e)),
-      ne_eqb command 0xC3 (λ (e : command ≡ 0xC3). h (inl e)),
-    )
-
--- a part that goes to a list's end
-pub to_the_end : (a : ℕ) (xs : List ℕ) → take (length xs - a) (drop a xs) ≡ drop a xs
-to_the_end a xs = take_all (length xs - a) (drop a xs) (simp length-drop (omega arith))
-
--- two places are one
-pub same_place : (x y : ℕ × ℕ) → x.0 ≡ y.0 → x.1 ≡ y.1 → x ≡ y
-same_place x y p q = λ i. (p i, q i)

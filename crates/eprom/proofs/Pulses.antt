@@ -11,8 +11,7 @@ use Rattle.kind.specs.Kind.{code_length}
 use Rattle.line.specs.Transfers.{waiting, transfer_sends}
 use Rattle.line.specs.declared.Field.{Field}
 use Rattle.line.specs.declared.EpromStage.{EpromStage}
-use Rattle.line.specs.declared.EpromStage.TheVariants.{ReadLow, ReadHigh, ReadCrc, ReadByte}
-use Rattle.line.specs.declared.EpromStage.TheVariants.{WriteLow, WriteHigh, WriteData, WriteCrc, PulseDue, Stored}
+use Rattle.line.specs.declared.EpromStage.TheVariants.{PulseDue}
 use Rattle.line.specs.declared.Transfer.{Transfer}
 use Rattle.bits.specs.Bit.{bit_of}
 use Rattle.eprom.specs.Fields.{field_start, stored_byte}
@@ -64,17 +63,9 @@ pulse-keeps field address byte j body h = get_or-set_other body (field_start fie
 after-program : (P : List ℕ → Type 0) (e : EpromStage) (body : List ℕ) → P body
     → ((i v : ℕ) → code_length ≤ i → P (set body i v)) → P (eprom_program e body)
 unfolding eprom_program programmed_body
-after-program P (ReadLow read) body same changed = same
-after-program P (ReadHigh read low) body same changed = same
-after-program P (ReadCrc read address) body same changed = same
-after-program P (ReadByte read address crc) body same changed = same
-after-program P (WriteLow field) body same changed = same
-after-program P (WriteHigh field low) body same changed = same
-after-program P (WriteData field address crc) body same changed = same
-after-program P (WriteCrc field address byte) body same changed = same
 after-program P (PulseDue field address byte) body same changed =
     changed (field_start field + address) _ (omega (arith, start-least field))
-after-program P (Stored field address) body same changed = same
+after-program P _ body same changed = same
 
 -- so a body keeps its length and its registration code
 pub program-length : (e : EpromStage) (body : List ℕ) → length (eprom_program e body) ≡ length body
@@ -97,13 +88,5 @@ pub pulse-elsewhere : (e : EpromStage) (transfer : Transfer) (body : List ℕ)
     → ((field : Field) (address byte : ℕ) → e ≡ PulseDue field address byte → ⊥)
     → (eprom_pulse e transfer body ≡ transfer) × (eprom_program e body ≡ body)
 unfolding eprom_pulse eprom_program
-pulse-elsewhere (ReadLow read) transfer body h = (refl, refl)
-pulse-elsewhere (ReadHigh read low) transfer body h = (refl, refl)
-pulse-elsewhere (ReadCrc read address) transfer body h = (refl, refl)
-pulse-elsewhere (ReadByte read address crc) transfer body h = (refl, refl)
-pulse-elsewhere (WriteLow field) transfer body h = (refl, refl)
-pulse-elsewhere (WriteHigh field low) transfer body h = (refl, refl)
-pulse-elsewhere (WriteData field address crc) transfer body h = (refl, refl)
-pulse-elsewhere (WriteCrc field address byte) transfer body h = (refl, refl)
 pulse-elsewhere (PulseDue field address byte) transfer body h = absurd (h field address byte refl)
-pulse-elsewhere (Stored field address) transfer body h = (refl, refl)
+pulse-elsewhere _ transfer body h = (refl, refl)

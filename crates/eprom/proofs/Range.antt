@@ -125,17 +125,9 @@ slot-ranged e register left body level h =
 pub pulse-ranged : (e : EpromStage) (register left : ℕ) (body : List ℕ) → eprom_range e left ≡ true
     → Ranged (eprom_pulse e (transfer_in e register left) body)
 unfolding eprom_pulse send_stored eprom_range
-pulse-ranged (ReadLow read) register left body h = ranged (ReadLow read) register left h
-pulse-ranged (ReadHigh read low) register left body h = ranged (ReadHigh read low) register left h
-pulse-ranged (ReadCrc read address) register left body h = ranged (ReadCrc read address) register left h
-pulse-ranged (ReadByte read address crc) register left body h = ranged (ReadByte read address crc) register left h
-pulse-ranged (WriteLow field) register left body h = ranged (WriteLow field) register left h
-pulse-ranged (WriteHigh field low) register left body h = ranged (WriteHigh field low) register left h
-pulse-ranged (WriteData field address crc) register left body h = ranged (WriteData field address crc) register left h
-pulse-ranged (WriteCrc field address byte) register left body h = ranged (WriteCrc field address byte) register left h
 pulse-ranged (PulseDue field address byte) register left body h =
     begins (Stored field address) (rw (both (ltb address (field_length field)) (under_way 1 left) h).0)
-pulse-ranged (Stored field address) register left body h = ranged (Stored field address) register left h
+pulse-ranged e register left body h = ranged e register left h
 
 -- ---- a memory function has a slot left
 

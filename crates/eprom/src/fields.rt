@@ -2,12 +2,13 @@
 // addresses in them.
 ghost use Rattle.std.specs.Prelude.{◌≡◌};
 ghost use Rattle.eprom.specs.Fields.{in_eprom, field_start, field_length, stored_byte, field_read, read_command};
-ghost use Rattle.eprom.specs.Fields.{write_command, address_of, cut_address, command_crc};
+ghost use Rattle.eprom.specs.Fields.{write_command, cut_address, command_crc};
 
 use kind::{DATA_LENGTH, STATUS_LENGTH};
 use line::{EpromRead, EpromStage, Field, MemoryStage, Stage};
 
 // A stage of a DS1982's memory function is a stage of a device.
+// As it is: `Stage` is of `line`, and `in_eprom`, the definition that a `From` would state, is of this crate.
 pub(crate) fn in_eprom(e: EpromStage) -> Stage
     ensures { result ≡ in_eprom e }
 {
@@ -15,6 +16,7 @@ pub(crate) fn in_eprom(e: EpromStage) -> Stage
 }
 
 // This is where a field's first byte is in the body.
+#[tactic(auto, unfolding(crate::specs::Fields::field_start))]
 pub(crate) fn field_start(field: Field) -> usize
     ensures { result ≡ field_start field }
 {
@@ -25,6 +27,8 @@ pub(crate) fn field_start(field: Field) -> usize
 }
 
 // This is how many bytes a field has.
+// As it is: each table of the two fields is a function, as it is a definition of its own; only the rows are alike.
+#[tactic(auto, unfolding(crate::specs::Fields::field_length))]
 pub(crate) fn field_length(field: Field) -> u8
     ensures { result ≡ field_length field }
 {
@@ -35,23 +39,26 @@ pub(crate) fn field_length(field: Field) -> u8
 }
 
 // This is the byte of a field at an address.
+#[tactic(auto, unfolding(crate::specs::Fields::stored_byte))]
 pub(crate) fn stored(field: Field, address: u8, body: &[u8]) -> u8
     ensures { result ≡ stored_byte field address body.now }
 {
-    bits::byte_at(body, field_start(field) + address as usize)
+    bits::byte_at(body, field_start(field) + usize::from(address))
 }
 
 // This is the field that a read sends.
+#[tactic(auto, unfolding(crate::specs::Fields::field_read))]
 pub(crate) fn field_read(read: EpromRead) -> Field
     ensures { result ≡ field_read read }
 {
     match read {
-        EpromRead::Memory => Field::Data,
+        EpromRead::Memory | EpromRead::Pages => Field::Data,
         EpromRead::Status => Field::Status,
-        EpromRead::Pages => Field::Data,
     }
 }
 
+// As it is: a `From` would have to stand in `line`, which has the types and knows no command.
+#[tactic(auto, unfolding(crate::specs::Fields::read_command))]
 pub(crate) fn read_command(read: EpromRead) -> u8
     ensures { result ≡ read_command read }
 {
@@ -62,6 +69,7 @@ pub(crate) fn read_command(read: EpromRead) -> u8
     }
 }
 
+#[tactic(auto, unfolding(crate::specs::Fields::write_command))]
 pub(crate) fn write_command(field: Field) -> u8
     ensures { result ≡ write_command field }
 {
@@ -71,25 +79,19 @@ pub(crate) fn write_command(field: Field) -> u8
     }
 }
 
-// The two bytes of an address are received with the low one first.
-pub(crate) fn address_of(low: u8, high: u8) -> u16
-    ensures { result ≡ address_of low high }
-{
-    low as u16 + 256 * (high as u16)
-}
-
 // An address is cut to its field as it is latched.
+#[tactic(auto, unfolding(crate::specs::Fields::cut_address))]
 pub(crate) fn cut(field: Field, address: u16) -> u16
     ensures { result ≡ cut_address field address }
 {
-    address % field_length(field) as u16
+    address % u16::from(field_length(field))
 }
 
 // This is the CRC of a command and of the two bytes of an address, which is the cut one.
+#[tactic(auto, unfolding(crate::specs::Fields::command_crc, bits::specs::Crc::crc_from))]
 pub(crate) fn command_crc(code: u8, address: u16) -> u8
     ensures { result ≡ command_crc code address }
 {
-    let first = bits::crc_byte(0, code);
-    let second = bits::crc_byte(first, (address % 256) as u8);
-    bits::crc_byte(second, (address / 256) as u8)
+    let [low, high] = address.to_le_bytes();
+    bits::crc_from(0, &[code, low, high])
 }

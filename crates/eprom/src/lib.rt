@@ -13,11 +13,13 @@ mod writes;
 ghost use Rattle.std.specs.Prelude.{◌≡◌};
 ghost use Rattle.eprom.specs.Eprom.{eprom_command, eprom_next, eprom_pulse, eprom_program, eprom_range};
 
-use fields::{address_of, field_length, field_read};
+use fields::{field_length, field_read};
 use line::{EpromRead, EpromStage, Field, Transfer};
 pub use view::remaining;
 
 // A memory command leads to the first transfer of its function, and any other command to waiting.
+// As it is: a command is its byte, as its definition has it, and any other byte is one too, which leads to waiting.
+#[tactic(auto, unfolding(crate::specs::Eprom::eprom_command))]
 pub fn command(value: u8) -> Transfer
     ensures { result ≡ eprom_command value }
 {
@@ -33,16 +35,21 @@ pub fn command(value: u8) -> Transfer
 
 // When the transfer of a stage ends, in which `value` was received, this transfer follows it. A slot where a pulse is
 // due makes the device wait.
+#[tactic(auto, unfolding(crate::specs::Eprom::eprom_next))]
 pub fn next(e: EpromStage, value: u8, body: &[u8]) -> Transfer
     ensures { result ≡ eprom_next e value body.now }
 {
     match e {
         EpromStage::ReadLow { read } => reads::read_high(read, value),
-        EpromStage::ReadHigh { read, low } => reads::read_latch(read, address_of(low, value)),
+        EpromStage::ReadHigh { read, low } => {
+            reads::read_latch(read, u16::from_le_bytes([low, value]))
+        }
         EpromStage::ReadCrc { read, address } => reads::after_crc(read, address, body),
         EpromStage::ReadByte { read, address, crc } => reads::after_byte(read, address, crc, body),
         EpromStage::WriteLow { field } => writes::write_high(field, value),
-        EpromStage::WriteHigh { field, low } => writes::write_latch(field, address_of(low, value)),
+        EpromStage::WriteHigh { field, low } => {
+            writes::write_latch(field, u16::from_le_bytes([low, value]))
+        }
         EpromStage::WriteData {
             field,
             address,
@@ -60,75 +67,55 @@ pub fn next(e: EpromStage, value: u8, body: &[u8]) -> Transfer
 
 // This is the transfer after a program pulse, worked out before the body changes; `transfer` is the one under way in
 // this stage.
+#[tactic(auto, unfolding(crate::specs::Eprom::eprom_pulse))]
 pub fn pulse(e: EpromStage, transfer: Transfer, body: &[u8]) -> Transfer
     ensures { result ≡ eprom_pulse e transfer body.now }
 {
     match e {
-        EpromStage::ReadLow { .. } => transfer,
-        EpromStage::ReadHigh { .. } => transfer,
-        EpromStage::ReadCrc { .. } => transfer,
-        EpromStage::ReadByte { .. } => transfer,
-        EpromStage::WriteLow { .. } => transfer,
-        EpromStage::WriteHigh { .. } => transfer,
-        EpromStage::WriteData { .. } => transfer,
-        EpromStage::WriteCrc { .. } => transfer,
         EpromStage::PulseDue {
             field,
             address,
             byte,
         } => writes::send_programmed(field, address, byte, body),
-        EpromStage::Stored { .. } => transfer,
+        _ => transfer,
     }
 }
 
 // A program pulse changes the body only where one is due.
+#[tactic(auto, unfolding(crate::specs::Eprom::eprom_program))]
 pub fn program(e: EpromStage, body: &mut [u8])
     ensures { body.new ≡ eprom_program e body.old }
 {
-    match e {
-        EpromStage::ReadLow { .. } => {}
-        EpromStage::ReadHigh { .. } => {}
-        EpromStage::ReadCrc { .. } => {}
-        EpromStage::ReadByte { .. } => {}
-        EpromStage::WriteLow { .. } => {}
-        EpromStage::WriteHigh { .. } => {}
-        EpromStage::WriteData { .. } => {}
-        EpromStage::WriteCrc { .. } => {}
-        EpromStage::PulseDue {
-            field,
-            address,
-            byte,
-        } => writes::program_byte(field, address, byte, body),
-        EpromStage::Stored { .. } => {}
+    if let EpromStage::PulseDue {
+        field,
+        address,
+        byte,
+    } = e
+    {
+        writes::program_byte(field, address, byte, body);
     }
 }
 
 // This tells whether the numbers of a transfer in this stage are in their range.
+#[tactic(auto, unfolding(crate::specs::Eprom::eprom_range))]
 pub fn in_range(e: EpromStage, left: u8) -> bool
     ensures { result ≡ eprom_range e left }
 {
     match e {
-        EpromStage::ReadLow { .. } => line::under_way(8, left),
-        EpromStage::ReadHigh { .. } => line::under_way(8, left),
         EpromStage::ReadCrc { read, address } => {
-            (address <= field_length(field_read(read))) & line::under_way(8, left)
+            address <= field_length(field_read(read)) && line::under_way(8, left)
         }
         EpromStage::ReadByte { read, address, .. } => {
-            (address < field_length(field_read(read))) & line::under_way(8, left)
+            address < field_length(field_read(read)) && line::under_way(8, left)
         }
-        EpromStage::WriteLow { .. } => line::under_way(8, left),
-        EpromStage::WriteHigh { .. } => line::under_way(8, left),
-        EpromStage::WriteData { field, address, .. } => {
-            (address < field_length(field)) & line::under_way(8, left)
-        }
-        EpromStage::WriteCrc { field, address, .. } => {
-            (address < field_length(field)) & line::under_way(8, left)
+        EpromStage::WriteData { field, address, .. }
+        | EpromStage::WriteCrc { field, address, .. }
+        | EpromStage::Stored { field, address } => {
+            address < field_length(field) && line::under_way(8, left)
         }
         EpromStage::PulseDue { field, address, .. } => {
-            (address < field_length(field)) & line::under_way(1, left)
+            address < field_length(field) && line::under_way(1, left)
         }
-        EpromStage::Stored { field, address } => {
-            (address < field_length(field)) & line::under_way(8, left)
-        }
+        _ => line::under_way(8, left),
     }
 }

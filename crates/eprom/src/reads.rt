@@ -9,6 +9,9 @@ use crate::fields::{command_crc, cut, field_length, field_read, in_eprom, read_c
 use kind::{DATA_LENGTH, PAGE_LENGTH, STATUS_LENGTH};
 use line::{EpromRead, EpromStage, Transfer};
 
+// As it is: one function for `read_low` and `write_low` would be given the stage, and so be `line::listening` itself.
+// As it is: read, address and crc are arguments, as `send_byte` and the stages have them, each with other ones beside.
+
 // The device receives the low byte of the address.
 pub(crate) fn read_low(read: EpromRead) -> Transfer
     ensures { result ≡ read_low read }
@@ -31,6 +34,7 @@ fn send_crc(read: EpromRead, address: u8, crc: u8) -> Transfer
 }
 
 // The device sends the byte at `address`; `crc` is the CRC of those before it.
+#[tactic(auto, unfolding(crate::specs::Reads::send_byte))]
 fn send_byte(read: EpromRead, address: u8, crc: u8, body: &[u8]) -> Transfer
     ensures { result ≡ send_byte read address crc body.now }
 {
@@ -47,15 +51,18 @@ fn send_byte(read: EpromRead, address: u8, crc: u8, body: &[u8]) -> Transfer
 }
 
 // Once the address is received it is cut, and the CRC of the command and the cut address is sent.
+#[tactic(auto, using(crate::proofs::Laws::cut_fits), unfolding(crate::specs::Reads::read_latch))]
 pub(crate) fn read_latch(read: EpromRead, address: u16) -> Transfer
     ensures { result ≡ read_latch read address }
 {
     let start = cut(field_read(read), address);
     let crc = command_crc(read_command(read), start);
+    // As it is: a cut address is below 128, and no From goes from u16 to u8.
     send_crc(read, start as u8, crc)
 }
 
 // After a CRC come the bytes from `address` on, or past the field's end ones.
+#[tactic(auto, unfolding(crate::specs::Reads::after_crc))]
 pub(crate) fn after_crc(read: EpromRead, address: u8, body: &[u8]) -> Transfer
     ensures { result ≡ after_crc read address body.now }
 {
@@ -67,6 +74,7 @@ pub(crate) fn after_crc(read: EpromRead, address: u8, body: &[u8]) -> Transfer
 }
 
 // A CRC comes before the byte at `next` where that would be past the field's end, or with C3h past the page's.
+#[tactic(auto, unfolding(crate::specs::Reads::ends_span))]
 fn ends_span(read: EpromRead, next: u8) -> bool
     ensures { result ≡ ends_span read next }
 {
@@ -78,6 +86,7 @@ fn ends_span(read: EpromRead, next: u8) -> bool
 }
 
 // After a byte comes the next one, or `crc`, which is the CRC of all bytes since the last CRC.
+#[tactic(auto, unfolding(crate::specs::Reads::after_byte))]
 pub(crate) fn after_byte(read: EpromRead, address: u8, crc: u8, body: &[u8]) -> Transfer
     ensures { result ≡ after_byte read address crc body.now }
 {

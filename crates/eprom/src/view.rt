@@ -7,14 +7,16 @@ use kind::{DATA_LENGTH, STATUS_LENGTH};
 use line::Field;
 
 // This tells whether the fields have the lengths of a DS1982's.
+#[tactic(auto, unfolding(crate::specs::View::fields_fit))]
 fn fields_fit(data: &[u8], status: &[u8]) -> bool
     ensures { result ≡ fields_fit «data».now status.now }
 {
-    (data.len() == DATA_LENGTH as usize) & (status.len() == STATUS_LENGTH as usize)
+    data.len() == usize::from(DATA_LENGTH) && status.len() == usize::from(STATUS_LENGTH)
 }
 
 // The bytes still to be read from a start address are the very part of one of the two fields. An empty part may lie
 // anywhere.
+// As it is: a command is its byte, as its definition matches it, and any other byte is one too, with nothing to read.
 pub fn remaining<'a>(command: u8, address: u16, data: &'a [u8], status: &'a [u8]) -> &'a [u8]
     ensures { (result.now ≡ bytes_to_read command address «data».now status.now)
         × (result.ref_ptr ≡ place_to_read command address «data».entry status.entry result.ref_ptr) }
@@ -22,8 +24,8 @@ pub fn remaining<'a>(command: u8, address: u16, data: &'a [u8], status: &'a [u8]
     if !fields_fit(data, status) {
         return &data[0..0];
     }
-    let data_start = cut(Field::Data, address) as usize;
-    let status_start = cut(Field::Status, address) as usize;
+    let data_start = usize::from(cut(Field::Data, address));
+    let status_start = usize::from(cut(Field::Status, address));
     match command {
         0xF0 | 0xC3 => &data[data_start..],
         0xAA => &status[status_start..],

@@ -66,12 +66,12 @@ packed-next image i = rw add-one
 -- ---- codes
 
 -- where the image ends too early there is no code
-pub short-code : (image : List ℕ) (start : ℕ) → length image < start + code_length → registration_check (take code_length (drop start image)) ≡ false
+pub short_code : (image : List ℕ) (start : ℕ) → length image < start + code_length → registration_check (take code_length (drop start image)) ≡ false
 unfolding registration_check
-short-code image start h =
+short_code image start h =
     let len : length (take code_length (drop start image)) < 8 = simp (length-take, length-drop) (omega arith) in
     rw (ne_eqb (length (take code_length (drop start image))) 8 (λ (e : length (take code_length (drop start image)) ≡ 8). omega arith))
 
 -- a byte of a code is a byte of the image
-pub code-byte : (image : List ℕ) (start k : ℕ) → k < code_length → get_or (take code_length (drop start image)) k 0 ≡ get_or image (start + k) 0
-code-byte image start k h = rw (get_or-take, get_or-drop)
+pub code_byte : (image : List ℕ) (start k : ℕ) → k < code_length → get_or (take code_length (drop start image)) k 0 ≡ get_or image (start + k) 0
+code_byte image start k h = rw (get_or-take, get_or-drop)

@@ -3,9 +3,29 @@
 use Rattle.std.specs.Prelude.{ℕ, zero, suc, ◌+◌, ◌*◌, Bool, false, not, cond, ◌&&◌, ◌||◌, List, [], ◌∷◌, length, get_or}
 use Rattle.std.specs.Prelude.{eqb, ltb}
 use Rattle.bits.specs.Crc.{registration_check}
+use Rattle.std.specs.Prelude.{Result, Ok, Err}
 use Rattle.kind.specs.declared.Kind.{Kind}
 use Rattle.kind.specs.Kind.{is_eprom, is_unknown}
+use Rattle.image.specs.declared.Refusal.{Refusal}
+use Rattle.image.specs.declared.Refusal.TheVariants.{MalformedImage, MisplacedBody, WrongCode, EqualCodes, BadTrace}
+use Rattle.image.specs.declared.Refusal.TheVariants.{NoFirstReset, BadPulse, NoRoom}
 use Rattle.image.specs.Image.{count_of, edition_of, family_at, second_at, offset_at, kind_at, packed_at, code_at}
+
+-- Each refusal has its number, as document 01 has it, and 11 as document 02, item 6.
+unfoldable pub refusal_number : Refusal → ℕ
+refusal_number MalformedImage = 1
+refusal_number MisplacedBody = 2
+refusal_number WrongCode = 3
+refusal_number EqualCodes = 4
+refusal_number BadTrace = 5
+refusal_number NoFirstReset = 11
+refusal_number BadPulse = 6
+refusal_number NoRoom = 7
+
+-- What is not refused has the number 0, and what is refused the number of its refusal.
+unfoldable pub told_number : {A : Type 0} → Result A Refusal → ℕ
+told_number (Ok answer) = 0
+told_number (Err refusal) = refusal_number refusal
 
 -- A test passes at some number below n.
 unfoldable pub some_below : ℕ → (ℕ → Bool) → Bool

@@ -9,7 +9,7 @@ ghost use Rattle.image.specs.Image.{entry_of};
 ghost use Rattle.image.specs.Refusal.{some_below, equal_bytes, edition_known, battery_malformed, entry_malformed};
 ghost use Rattle.image.specs.Refusal.{image_malformed, image_too_long, body_misplaced};
 ghost use Rattle.image.specs.Refusal.{code_refused, some_code_refused, code_repeated, some_code_repeated};
-ghost use Rattle.image.specs.Refusal.{image_refusal};
+ghost use Rattle.image.specs.Refusal.{image_refusal, refusal_number, told_number};
 
 use kind::Kind;
 
@@ -20,7 +20,47 @@ pub struct Entry {
     pub start: usize,
 }
 
-// The number 0 means that nothing is refused.
+// An image, a run, a search or a judgement is refused for one of these causes, and the first that applies is given.
+#[derive(Clone, Copy, Debug, PartialEq, Eq)]
+pub enum Refusal {
+    // The image is too short for its entries, has over 64 devices or an unknown edition, or an entry is malformed.
+    MalformedImage,
+    // A body is not at its packed place, or the image is of another length, or too long.
+    MisplacedBody,
+    // A code has a wrong CRC, or another family than its entry.
+    WrongCode,
+    // Two codes are equal.
+    EqualCodes,
+    // The trace is too long, or has a byte that is no event.
+    BadTrace,
+    // The trace does not begin with a regular reset.
+    NoFirstReset,
+    // The trace has a program pulse while a device is not a DS1982.
+    BadPulse,
+    // A buffer is too short, recorded answers are of another length than the trace, or line states are too few.
+    NoRoom,
+}
+
+// A C program is told a refusal by its number.
+impl From<Refusal> for u32 {
+    ghost from_gives = { λ refusal number. number ≡ refusal_number refusal };
+
+    #[tactic(auto, unfolding(crate::specs::Refusal::refusal_number))]
+    fn from(refusal: Refusal) -> u32 {
+        match refusal {
+            Refusal::MalformedImage => 1,
+            Refusal::MisplacedBody => 2,
+            Refusal::WrongCode => 3,
+            Refusal::EqualCodes => 4,
+            Refusal::BadTrace => 5,
+            Refusal::BadPulse => 6,
+            Refusal::NoRoom => 7,
+            Refusal::NoFirstReset => 11,
+        }
+    }
+}
+
+// A C program is told by the number 0 that nothing is refused.
 pub const ACCEPTED: u32 = 0;
 
 // An image of more bytes than this is refused.
@@ -33,6 +73,7 @@ pub fn count(image: &[u8]) -> u8
     bits::byte_at(image, 0)
 }
 
+// As it is: image and i stay arguments, as a run and a C program lend an image as bytes that change between two calls.
 fn family_at(image: &[u8], i: u8) -> u8
     ensures { result ≡ family_at image.now i }
 {
@@ -45,6 +86,7 @@ fn second_at(image: &[u8], i: u8) -> u8
     bits::byte_at(image, 2 + 4 * bits::wide(i) + 1)
 }
 
+// As it is: an edition is its byte, as `battery_malformed` says what any byte but 1 does, and so it is no enum.
 fn edition(image: &[u8]) -> u8
     ensures { result ≡ edition_of image.now }
 {
@@ -55,7 +97,7 @@ fn edition(image: &[u8]) -> u8
 fn flat_at(image: &[u8], i: u8) -> bool
     ensures { result ≡ flat_at image.now i }
 {
-    (edition(image) == 2) & (second_at(image, i) == 1)
+    edition(image) == 2 && second_at(image, i) == 1
 }
 
 fn kind_at(image: &[u8], i: u8) -> Kind
@@ -69,81 +111,69 @@ fn offset_at(image: &[u8], i: u8) -> u16
 {
     let low = bits::byte_at(image, 2 + 4 * bits::wide(i) + 2);
     let high = bits::byte_at(image, 2 + 4 * bits::wide(i) + 3);
-    low as u16 + 256 * (high as u16)
+    u16::from_le_bytes([low, high])
 }
 
 // The entry of device i is decoded. The body is found from its offset alone, so that the cost does not depend on i.
+#[tactic(auto, unfolding(crate::specs::Image::entry_of))]
 pub fn entry_at(image: &[u8], i: u8) -> Entry
     ensures { result ≡ entry_of image.now i }
 {
-    let kind = kind_at(image, i);
-    let start = offset_at(image, i) as usize;
-    Entry { kind, start }
+    Entry {
+        kind: kind_at(image, i),
+        start: usize::from(offset_at(image, i)),
+    }
 }
 
 // This tells whether the second byte of an entry is none that the edition has for a device of this kind: edition 1 has
 // only 0, edition 2 has 0 and 1, and 1 only for a device with a battery, which a DS1982 is not.
+#[tactic(auto, unfolding(crate::specs::Refusal::battery_malformed))]
 fn is_battery_malformed(edition: u8, second: u8, kind: Kind) -> bool
     ensures { result ≡ battery_malformed edition second kind }
 {
     if edition == 1 {
-        return second != 0;
+        second != 0
+    } else {
+        1 < second || second == 1 && kind::is_eprom(kind)
     }
-    if 1 < second {
-        return true;
-    }
-    (second == 1) & kind::is_eprom(kind)
 }
 
+#[tactic(auto, unfolding(crate::specs::Refusal::entry_malformed))]
 fn is_entry_malformed(image: &[u8], i: u8) -> bool
     ensures { result ≡ entry_malformed image.now i }
 {
     let kind = kind_at(image, i);
-    if is_battery_malformed(edition(image), second_at(image, i), kind) {
-        return true;
-    }
-    kind::is_unknown(kind)
+    is_battery_malformed(edition(image), second_at(image, i), kind) || kind::is_unknown(kind)
 }
 
 fn has_malformed_entry(image: &[u8]) -> bool
     ensures { result ≡ some_below (count_of image.now) (λ i. entry_malformed image.now i) }
 {
-    let n = count(image);
-    let mut i: u8 = 0;
-    while i < n {
-        if is_entry_malformed(image, i) {
-            return true;
-        }
-        i += 1;
-    }
-    false
+    (0..count(image)).any(|i| is_entry_malformed(image, i))
 }
 
 // An image is of edition 1 or 2.
+#[tactic(auto, unfolding(crate::specs::Refusal::edition_known))]
 fn is_edition_known(edition: u8) -> bool
     ensures { result ≡ edition_known edition }
 {
-    (edition == 1) | (edition == 2)
+    matches!(edition, 1 | 2)
 }
 
 // Cause 1 is an image too short for its entries, over 64 devices, another edition than 1 or 2, or a malformed entry.
+#[tactic(auto, unfolding(crate::specs::Refusal::image_malformed))]
 fn is_malformed(image: &[u8]) -> bool
     ensures { result ≡ image_malformed image.now }
 {
     let n = count(image);
-    if image.len() < 2 + 4 * bits::wide(n) {
-        return true;
-    }
-    if 64 < n {
-        return true;
-    }
-    if is_edition_known(edition(image)) {
-        return has_malformed_entry(image);
-    }
-    true
+    image.len() < 2 + 4 * bits::wide(n)
+        || 64 < n
+        || !is_edition_known(edition(image))
+        || has_malformed_entry(image)
 }
 
 // Cause 2 is an image that is too long.
+#[tactic(auto, unfolding(crate::specs::Refusal::image_too_long))]
 fn is_too_long(image: &[u8]) -> bool
     ensures { result ≡ image_too_long image.now }
 {
@@ -156,108 +186,72 @@ fn is_misplaced(image: &[u8]) -> bool
 {
     let n = count(image);
     let mut at = 2 + 4 * bits::wide(n);
-    let mut i: u8 = 0;
-    while i < n {
-        if offset_at(image, i) as usize != at {
+    for i in 0..n {
+        if usize::from(offset_at(image, i)) != at {
             return true;
         }
         at += kind::body_size(kind_at(image, i));
-        i += 1;
     }
     image.len() != at
 }
 
+#[tactic(auto, using(crate::proofs::Laws::short_code), unfolding(crate::specs::Refusal::code_refused))]
 fn is_code_refused(image: &[u8], i: u8) -> bool
     ensures { result ≡ code_refused image.now i }
 {
-    let start = offset_at(image, i) as usize;
+    let start = usize::from(offset_at(image, i));
     let end = start + kind::CODE_LENGTH;
     if image.len() < end {
         return true;
     }
-    if bits::registration_check(&image[start..end]) {
-        return image[start] != family_at(image, i);
-    }
-    true
+    !bits::registration_check(&image[start..end]) || image[start] != family_at(image, i)
 }
 
 // Cause 3 is a code with a wrong CRC, or with another family than its entry.
 fn is_miscoded(image: &[u8]) -> bool
     ensures { result ≡ some_code_refused image.now }
 {
-    let n = count(image);
-    let mut i: u8 = 0;
-    while i < n {
-        if is_code_refused(image, i) {
-            return true;
-        }
-        i += 1;
-    }
-    false
+    (0..count(image)).any(|i| is_code_refused(image, i))
 }
 
+// As it is: `equal_bytes` takes a code past the image's end as zeros, so that two slices of it cannot be compared.
 fn same_code(image: &[u8], i: u8, j: u8) -> bool
     ensures { result ≡ equal_bytes 8 (code_at image.now i) (code_at image.now j) }
 {
-    let a = offset_at(image, i) as usize;
-    let b = offset_at(image, j) as usize;
-    let mut k = 0;
-    while k < 8 {
-        if bits::byte_at(image, a + k) != bits::byte_at(image, b + k) {
-            return false;
-        }
-        k += 1;
-    }
-    true
+    let a = usize::from(offset_at(image, i));
+    let b = usize::from(offset_at(image, j));
+    (0..kind::CODE_LENGTH).all(|k| bits::byte_at(image, a + k) == bits::byte_at(image, b + k))
 }
 
 // This tells whether the code of device j is that of a device before it, next to it or not.
 fn is_repeated(image: &[u8], j: u8) -> bool
     ensures { result ≡ code_repeated image.now j }
 {
-    let mut i: u8 = 0;
-    while i < j {
-        if same_code(image, i, j) {
-            return true;
-        }
-        i += 1;
-    }
-    false
+    (0..j).any(|i| same_code(image, i, j))
 }
 
 // Cause 4 is two equal codes.
 fn is_doubled(image: &[u8]) -> bool
     ensures { result ≡ some_code_repeated image.now }
 {
-    let n = count(image);
-    let mut j: u8 = 0;
-    while j < n {
-        if is_repeated(image, j) {
-            return true;
-        }
-        j += 1;
-    }
-    false
+    (0..count(image)).any(|j| is_repeated(image, j))
 }
 
-// An image is refused with the number of the first cause that applies, 1 to 4; the number is 0 where none does.
-pub fn refusal(image: &[u8]) -> u32
-    ensures { result ≡ image_refusal image.now }
+// An image is refused for the first cause that applies.
+pub fn check(image: &[u8]) -> Result<(), Refusal>
+    ensures { told_number result ≡ image_refusal image.now }
 {
     if is_malformed(image) {
-        return 1;
+        return Err(Refusal::MalformedImage);
     }
-    if is_too_long(image) {
-        return 2;
-    }
-    if is_misplaced(image) {
-        return 2;
+    if is_too_long(image) || is_misplaced(image) {
+        return Err(Refusal::MisplacedBody);
     }
     if is_miscoded(image) {
-        return 3;
+        return Err(Refusal::WrongCode);
     }
     if is_doubled(image) {
-        return 4;
+        return Err(Refusal::EqualCodes);
     }
-    ACCEPTED
+    Ok(())
 }

@@ -19,8 +19,8 @@ use Rattle.line.specs.declared.MemoryStage.TheVariants as memories
 use Rattle.line.specs.declared.Stage.{Stage}
 use Rattle.line.specs.declared.Stage.TheVariants.{Rom, Memory}
 use Rattle.line.specs.Transfers.{goes_on, received}
-use Rattle.sram.specs.declared.CopyDone.{CopyDone}
-use Rattle.sram.specs.declared.CopyDone.TheVariants.{NoCopy}
+use Rattle.sram.specs.declared.Written.{Written}
+use Rattle.std.specs.Prelude.{Option, None}
 use Rattle.sram.specs.Sram.{sram_copy, pattern_copy, pattern_same, copy_made}
 use Rattle.device.specs.declared.LineState.{LineState}
 use Rattle.device.specs.Device.{memory_copy, stage_copy, copy_in_slot_as_is, copy_in_slot, memory_range, stage_range, line_state_in_range}
@@ -31,12 +31,13 @@ use Rattle.bus.specs.Refusal.{no_first_reset}
 use Rattle.bus.proofs.Laws.{first-event}
 use Rattle.bus.proofs.Ranges.{InRange, AllIn, run_in, as-it-is-state}
 use Rattle.bus.proofs.Runs.{run-append, Same, AllSame, none, also, run-same, same_length}
+use Rattle.recording.specs.Recorded.{level_at}
 use Rattle.judge.specs.declared.Doing.{Doing}
 use Rattle.judge.specs.declared.Doing.TheVariants.{Command, Address, Pattern, Other}
 use Rattle.judge.specs.declared.Seen.{Seen}
 use Rattle.judge.specs.Rules.{Moment, is_last, is_command, is_memory_command, completes, is_made, accepts_copy, wanted_bits, shown_since_write}
 use Rattle.judge.specs.Rules.{device_at, devices_at, moment_of, moment_at, moments_of}
-use Rattle.judge.specs.Loops.{level_at, slot_at, sram_doing, memory_doing, doing_of, pattern_accepted, seen_so, seen_by, careful_at}
+use Rattle.judge.specs.Loops.{slot_at, sram_doing, memory_doing, doing_of, pattern_accepted, seen_so, seen_by, careful_at}
 use Rattle.judge.proofs.Moments.{slot-heard, up_from, up-append, WayTo, careful-is}
 
 -- ---- what is seen, by the stage
@@ -103,7 +104,7 @@ none_of : (last shown : Bool) → false ≡ ((last && false) && not shown)
 none_of true shown = refl
 none_of false shown = refl
 
-made-cond : (x y : Bool) (c : CopyDone) → is_made c ≡ true → (not x && y) ≡ is_made (cond x NoCopy (cond y c NoCopy))
+made-cond : (x y : Bool) (c : Option Written) → is_made c ≡ true → (not x && y) ≡ is_made (cond x None (cond y c None))
 unfolding is_made
 made-cond true y c e = refl
 made-cond false true c e = sym e
@@ -154,7 +155,7 @@ careless-stage (Memory (memories.Eprom x)) kind overdrive register left ok last 
 
 -- ---- what a moment says in a slot
 
-made-last : (x : Bool) (c : CopyDone) → is_made (cond x NoCopy c) ≡ (not x && is_made c)
+made-last : (x : Bool) (c : Option Written) → is_made (cond x None c) ≡ (not x && is_made c)
 unfolding is_made
 made-last true c = refl
 made-last false c = refl

@@ -5,19 +5,20 @@ use mathlib.Core.Bool.{Bool, true, false, not, cond, ◌&&◌, ◌||◌, true≢
 use mathlib.Core.List.{List, [], ◌∷◌}
 use native.Mathlib.Omega.{arith}
 use native.Mathlib.Numerals.{add-one}
-use lib.ListN.{length, get_or, set, length-set}
+use lib.ListN.{length, get_or}
 use lib.Dec.{eqb, ltb, lit<}
-use borrow.Author.Tests.{ltb-true, ltb-false, le-ltb, lt-ltb}
+use borrow.Author.Tests.{le-ltb}
 use Rattle.kind.specs.declared.Kind.{Kind}
 use Rattle.device.specs.declared.LineState.{LineState}
 use Rattle.image.specs.Image.{count_of}
 use Rattle.image.specs.Refusal.{cause, first_cause, image_causes, image_refusal}
 use Rattle.bus.specs.Refusal.{bad_trace, no_first_reset, bad_pulse, no_run_room, run_causes, run_refusal}
 use Rattle.bus.proofs.Laws.{first_some, first-none, run-causes, admitted, turns-image-length, turns-lines-length}
+use Rattle.recording.specs.Recorded.{level_at}
 use Rattle.judge.specs.Refusal.{no_judge_room, judge_causes, judge_refusal}
 use Rattle.judge.specs.declared.Part.{Part}
 use Rattle.judge.specs.declared.Back.{Back}
-use Rattle.judge.specs.Loops.{level_at, slot_at, passed_at, line_next, wanted_bit, reads_on, bits_in, shown_from, part_at, part_over, laid_up_to}
+use Rattle.judge.specs.Loops.{slot_at, passed_at, line_next, wanted_bit, goes_on_at, bits_in, shown_from, part_at, part_over}
 use Rattle.line.specs.declared.Stage.{Stage}
 use Rattle.line.specs.declared.Stage.TheVariants.{Rom, Memory}
 use Rattle.line.specs.Transfers.{goes_on, received}
@@ -27,9 +28,8 @@ use Rattle.judge.specs.declared.Doing.{Doing}
 use Rattle.judge.specs.declared.Doing.TheVariants.{Command, Address, Pattern, Other}
 use Rattle.judge.specs.declared.Seen.{Seen}
 use Rattle.judge.specs.Loops.{doing_of, careless_at, seen_by, seen_with, at_memory, seen_up_to}
-use Rattle.judge.specs.Loops.{looks_back, back_at, back_from}
-use Rattle.judge.specs.declared.Verdict.{Verdict}
-use Rattle.judge.specs.declared.Verdict.TheVariants.{Accepted, Broken, Refused}
+use Rattle.judge.specs.Loops.{back_at, back_from, careful_by}
+use Rattle.judge.specs.Judge.{Verdict, Accepted, Broken, Refused}
 use Rattle.judge.specs.Loops.{verdict_next, still_looked_at}
 
 -- ---- the part of a trace
@@ -64,26 +64,6 @@ module _ (trace answers body : List ℕ) (overdrive : Bool) (end : ℕ) where
   abbrev shown : ℕ → ℕ → ℕ → ℕ → Bool
   shown at due k left = shown_from trace answers body overdrive at due k left
 
-  -- a read that goes on has not come to the end
-  pub reads_before : (k at : ℕ) → reads_on trace answers body overdrive end k at ≡ true → k < end
-  unfolding reads_on
-  reads_before k at e = ltb-true k end (and_left (ltb k end) _ e)
-
-  pub reads-late : (k at : ℕ) → end ≤ k → reads_on trace answers body overdrive end k at ≡ false
-  unfolding reads_on
-  reads-late k at h =
-      ap (λ (x : Bool). x && cond (slot_at (get_or trace k 0) overdrive) (beq (level_at answers k) (wanted_bit body at)) (passed_at (get_or trace k 0) overdrive)) (le-ltb k end h)
-
-  pub reads-slot : (k at : ℕ) → k < end → slot_at (get_or trace k 0) overdrive ≡ true → reads_on trace answers body overdrive end k at ≡ beq (level_at answers k) (wanted_bit body at)
-  unfolding reads_on
-  reads-slot k at h e =
-      (λ i. lt-ltb k end h i && cond (e i) (beq (level_at answers k) (wanted_bit body at)) (passed_at (get_or trace k 0) overdrive))
-
-  pub reads-passed : (k at : ℕ) → k < end → slot_at (get_or trace k 0) overdrive ≡ false → reads_on trace answers body overdrive end k at ≡ passed_at (get_or trace k 0) overdrive
-  unfolding reads_on
-  reads-passed k at h e =
-      (λ i. lt-ltb k end h i && cond (e i) (beq (level_at answers k) (wanted_bit body at)) (passed_at (get_or trace k 0) overdrive))
-
   shown-choose : (k at due left : ℕ) (s b p : Bool) → cond s b p ≡ true
       → cond s (b && shown (suc at) due (suc k) left) (p && shown at (suc due) (suc k) left)
       ≡ shown (at + cond s 1 0) (suc due - cond s 1 0) (suc k) left
@@ -98,17 +78,15 @@ module _ (trace answers body : List ℕ) (overdrive : Bool) (end : ℕ) where
       (λ i. shown (x i) (y i) (suc k) left)
   shown-choose k at due left false b false e = absurd (true≢false (sym e))
 
-  pub shown-step : (k at due : ℕ) → 0 < due → reads_on trace answers body overdrive end k at ≡ true
+  pub shown-step : (k at due : ℕ) → k < end → 0 < due → goes_on_at trace answers body overdrive k at ≡ true
       → shown at due k (end - k)
       ≡ shown (at + bits_in (get_or trace k 0) overdrive) (due - bits_in (get_or trace k 0) overdrive) (k + 1) (end - (k + 1))
-  unfolding shown_from reads_on bits_in
-  shown-step k at zero h e = absurd (omega arith)
-  shown-step k at (suc due) h e =
-      let small : k < end = ltb-true k end (and_left (ltb k end) _ e) in
+  unfolding shown_from goes_on_at bits_in
+  shown-step k at zero small h e = absurd (omega arith)
+  shown-step k at (suc due) small h e =
       let n : end - k ≡ suc (end - suc k) = omega (arith, small) in
       ap (shown at (suc due) k) n
-      ∙ shown-choose k at due (end - suc k) (slot_at (get_or trace k 0) overdrive) (beq (level_at answers k) (wanted_bit body at)) (passed_at (get_or trace k 0) overdrive)
-      (and_right (ltb k end) _ e)
+      ∙ shown-choose k at due (end - suc k) (slot_at (get_or trace k 0) overdrive) (beq (level_at answers k) (wanted_bit body at)) (passed_at (get_or trace k 0) overdrive) e
       ∙ (λ i. shown (at + cond (slot_at (get_or trace k 0) overdrive) 1 0) (suc due - cond (slot_at (get_or trace k 0) overdrive) 1 0) (sym (add-one k) i) (end - sym (add-one k) i))
 
   shown-none : (k at due left : ℕ) (s b p : Bool) → cond s b p ≡ false
@@ -118,21 +96,21 @@ module _ (trace answers body : List ℕ) (overdrive : Bool) (end : ℕ) where
   shown-none k at due left false b true e = absurd (true≢false e)
   shown-none k at due left false b false e = refl
 
-  pub shown-stop : (k at due : ℕ) → 0 < due → reads_on trace answers body overdrive end k at ≡ false → shown at due k (end - k) ≡ false
-  unfolding shown_from reads_on
-  shown-stop k at zero h e = absurd (omega arith)
-  shown-stop k at (suc due) h e = choose (ltb k end) refl
-    where
-      choose : (x : Bool) → ltb k end ≡ x → shown at (suc due) k (end - k) ≡ false
-      choose true f =
-          let small : k < end = ltb-true k end f in
-          let n : end - k ≡ suc (end - suc k) = omega (arith, small) in
-          ap (shown at (suc due) k) n
-          ∙ shown-none k at due (end - suc k) (slot_at (get_or trace k 0) overdrive) (beq (level_at answers k) (wanted_bit body at)) (passed_at (get_or trace k 0) overdrive)
-          (sym (ap (λ (x : Bool). x && cond (slot_at (get_or trace k 0) overdrive) (beq (level_at answers k) (wanted_bit body at)) (passed_at (get_or trace k 0) overdrive)) f) ∙ e)
-      choose false f =
-          let n : end - k ≡ 0 = omega (arith, ltb-false k end f) in
-          ap (shown at (suc due) k) n
+  pub shown-stop : (k at due : ℕ) → k < end → 0 < due → goes_on_at trace answers body overdrive k at ≡ false → shown at due k (end - k) ≡ false
+  unfolding shown_from goes_on_at
+  shown-stop k at zero small h e = absurd (omega arith)
+  shown-stop k at (suc due) small h e =
+      let n : end - k ≡ suc (end - suc k) = omega (arith, small) in
+      ap (shown at (suc due) k) n
+      ∙ shown-none k at due (end - suc k) (slot_at (get_or trace k 0) overdrive) (beq (level_at answers k) (wanted_bit body at)) (passed_at (get_or trace k 0) overdrive) e
+
+  -- a read that comes to the end has shown too little
+  pub shown-short : (k at due : ℕ) → end ≤ k → 0 < due → shown at due k (end - k) ≡ false
+  unfolding shown_from
+  shown-short k at zero small h = absurd (omega arith)
+  shown-short k at (suc due) small h =
+      let n : end - k ≡ 0 = omega (arith, small) in
+      ap (shown at (suc due) k) n
 
   pub shown-all : (k at due left : ℕ) → due ≡ 0 → shown at due k left ≡ true
   unfolding shown_from
@@ -140,49 +118,24 @@ module _ (trace answers body : List ℕ) (overdrive : Bool) (end : ℕ) where
 
 -- ---- the walk back
 
-pub back_step : (trace answers : List ℕ) (kind : Kind) (body : List ℕ) (j : ℕ) (back : Back) → looks_back j back ≡ true
-    → back_from trace answers kind body j back
-    ≡ back_from trace answers kind body (j - 1) (back_at trace answers kind body (j - 1) back)
-unfolding looks_back back_from
-back_step trace answers kind body zero back e = absurd (true≢false (sym e ∙ ap (λ (b : Bool). b && not back.decided) (le-ltb 0 0 (omega arith))))
-back_step trace answers kind body (suc j) back e =
-    let n : suc j - 1 ≡ j = omega arith in
-    let some : ltb 0 (suc j) ≡ true = lt-ltb 0 (suc j) (omega arith) in
-    rw n (split back.decided (rw some at e))
-  where
-    split : (b : Bool) → (true && not b) ≡ true
-        → cond b back (back_from trace answers kind body j (back_at trace answers kind body j back))
-        ≡ back_from trace answers kind body j (back_at trace answers kind body j back)
-    split true e = absurd (true≢false (sym e))
-    split false e = refl
+module _ (trace answers : List ℕ) (kind : Kind) (body : List ℕ) where
+  pub back_step : (j : ℕ) (back : Back) → 0 < j → back.decided ≡ false
+      → back_from trace answers kind body j back ≡ back_from trace answers kind body (j - 1) (back_at trace answers kind body (j - 1) back)
+  unfolding back_from
+  back_step zero back h e = absurd (omega arith)
+  back_step (suc j) back h e =
+      let n : suc j - 1 ≡ j = omega arith in
+      rw n (rw e refl)
 
-pub looks-positive : (j : ℕ) (back : Back) → looks_back j back ≡ true → 0 < j
-unfolding looks_back
-looks-positive j back e = ltb-true 0 j (and_left (ltb 0 j) _ e)
+  pub back_done : (j : ℕ) (back : Back) → back.decided ≡ true → careful_by (back_from trace answers kind body j back) ≡ back.shown
+  unfolding back_from careful_by
+  back_done zero back e = rw e refl
+  back_done (suc j) back e = rw e refl
 
-pub back_end : (trace answers : List ℕ) (kind : Kind) (body : List ℕ) (j : ℕ) (back : Back) → looks_back j back ≡ false
-    → back_from trace answers kind body j back ≡ back
-unfolding looks_back back_from
-back_end trace answers kind body zero back e = refl
-back_end trace answers kind body (suc j) back e =
-    let some : ltb 0 (suc j) ≡ true = lt-ltb 0 (suc j) (omega arith) in
-    split back.decided (rw some at e)
-  where
-    split : (b : Bool) → (true && not b) ≡ false
-        → cond b back (back_from trace answers kind body j (back_at trace answers kind body j back)) ≡ back
-    split true e = refl
-    split false e = absurd (true≢false e)
-
--- ---- the image laid over the work space
-
-pub laid-length : (k : ℕ) (image work : List ℕ) → length (laid_up_to k image work) ≡ length work
-unfolding laid_up_to
-laid-length zero image work = refl
-laid-length (suc k) image work = length-set (laid_up_to k image work) k _ ∙ laid-length k image work
-
-pub laid-step : (k : ℕ) (image work : List ℕ) → set (laid_up_to k image work) k (get_or image k 0) ≡ laid_up_to (k + 1) image work
-unfolding laid_up_to
-laid-step k image work = rw add-one
+  -- before the first event there is no write
+  pub back_end : (j : ℕ) (back : Back) → j ≡ 0 → back.decided ≡ false → careful_by (back_from trace answers kind body j back) ≡ false
+  unfolding back_from careful_by
+  back_end j back n e = rw n (rw e refl)
 
 -- ---- why a recording is not judged
 

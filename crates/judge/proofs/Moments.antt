@@ -22,12 +22,13 @@ use Rattle.bus.specs.declared.Event.{Event}
 use Rattle.bus.specs.declared.Event.TheVariants.{Reset, OverdriveReset}
 use Rattle.bus.specs.Bus.{device_with, event_of, taken_state, hears, unheard_state, is_slot, is_overdrive}
 use Rattle.bus.specs.Loops.{heard_state_as_is, next_state_as_is}
+use Rattle.recording.specs.Recorded.{level_at}
 use Rattle.judge.specs.declared.Mark.{Mark}
 use Rattle.judge.specs.declared.Mark.TheVariants.{Unmarked, Wrote, Reads}
 use Rattle.judge.specs.declared.Part.{Part}
 use Rattle.judge.specs.declared.Back.{Back}
 use Rattle.judge.specs.Rules.{Moment, heard_slot, passed_over, is_last, is_memory_command, is_write_address, completes, writes, bits_from, wanted_bits, shows_bits, some_read_shows, some_write, shown_since_write}
-use Rattle.judge.specs.Loops.{level_at, slot_at, passed_at, line_next, wanted_bytes, wanted_bit, shown_from, read_shown, part_so, part_by, part_at, part_over, back_to, overdrive_before, begins_part, back_by, back_over, part_from, back_at, back_from, careful_by, careful_at}
+use Rattle.judge.specs.Loops.{slot_at, passed_at, line_next, wanted_bytes, wanted_bit, shown_from, read_shown, part_so, part_by, part_at, part_over, back_to, overdrive_before, begins_part, back_by, back_over, part_from, back_at, back_from, careful_by, careful_at}
 use Rattle.judge.proofs.Way.{Off, off_next, off-speed, Alike, same, alike-speed, hears-speed, event-alike, slot_next, passed-next, wrote_in, reads_in, mark-is, alike-wrote, alike-reads, reads-off, reads-speed, both_true, reads-heard, fast-before}
 
 -- ---- what a device hears

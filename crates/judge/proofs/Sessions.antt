@@ -17,17 +17,16 @@ use Rattle.line.specs.declared.RomStage.TheVariants.{Waiting}
 use Rattle.line.specs.declared.Stage.{Stage}
 use Rattle.line.specs.declared.Stage.TheVariants.{Rom}
 use Rattle.line.specs.Transfers.{goes_on, received}
-use Rattle.sram.specs.declared.CopyDone.TheVariants.{NoCopy}
+use Rattle.std.specs.Prelude.{None}
 use Rattle.device.specs.declared.LineState.{LineState}
 use Rattle.device.specs.Device.{waiting_state, stage_copy, copy_in_slot_as_is, copy_in_slot, line_state_in_range, or_waiting}
 use Rattle.bus.specs.Bus.{Device, event_of, taken_state, hears, run_trace, is_slot}
 use Rattle.bus.specs.Run.{left_by_run, run_at, run_of}
 use Rattle.bus.specs.Refusal.{run_refusal}
-use Rattle.judge.specs.declared.Verdict.TheVariants.{Accepted}
+use Rattle.judge.specs.Judge.{Accepted, First, none, or_here, first_below, verdict_by, verdict_of, left_by_judge, judge_at, judge_of}
 use Rattle.judge.specs.Rules.{Moment, heard_slot, is_last, is_memory_command, at_memory_command, completes, is_made, accepts_copy, wanted_bits, shown_since_write}
 use Rattle.judge.specs.Rules.{device_at, devices_at, moment_at, moments_of, breaks_a, count_below, breaks_b, breaks_c}
 use Rattle.judge.specs.Refusal.{judge_refusal}
-use Rattle.judge.specs.Judge.{First, none, or_here, first_below, verdict_by, verdict_of, left_by_judge, judge_at, judge_of}
 
 none-differs : (trace : List ℕ) (ds : List Device) (n : ℕ) → first_below n (breaks_a trace (run_trace trace ds).answers ds) ≡ none
 unfolding first_below breaks_a or_here
@@ -67,7 +66,7 @@ no-command command m r e =
     ap (λ (s : Stage). heard_slot m && (is_memory_command s && (is_last m.device && eqb (received m.device.state.transfer m.level) command))) e
     ∙ and_none (heard_slot m)
 
-none_made : (x : Bool) → is_made (cond x NoCopy NoCopy) ≡ false
+none_made : (x : Bool) → is_made (cond x None None) ≡ false
 unfolding is_made
 none_made true = refl
 none_made false = refl
@@ -75,7 +74,7 @@ none_made false = refl
 no-copy-as-is : (s : LineState) (r : RomStage) → s.transfer.stage ≡ Rom r → (kind : Kind) (body : List ℕ) (level : Bool) → is_made (copy_in_slot_as_is s kind body level) ≡ false
 unfolding copy_in_slot_as_is stage_copy
 no-copy-as-is s r e kind body level =
-    ap (λ (x : Stage). is_made (cond (goes_on s.transfer) NoCopy (stage_copy x kind (received s.transfer level) body))) e ∙ none_made (goes_on s.transfer)
+    ap (λ (x : Stage). is_made (cond (goes_on s.transfer) None (stage_copy x kind (received s.transfer level) body))) e ∙ none_made (goes_on s.transfer)
 
 no_copy : (m : Moment) (r : RomStage) → m.device.state.transfer.stage ≡ Rom r → accepts_copy m ≡ false
 unfolding accepts_copy copy_in_slot or_waiting

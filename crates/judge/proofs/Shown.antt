@@ -6,21 +6,22 @@ use mathlib.Core.List.{List, [], ◌∷◌, ◌++◌}
 use mathlib.Core.Logic.{⊎_elim}
 use native.Mathlib.Omega.{arith}
 use native.Mathlib.Nat.{eq-or-lt_of_le}
-use lib.ListN.{length, get_or, set, take, drop, replicate, take-append-drop}
-use lib.Seq.{length-take-le, take-suc, drop-cons, get_or_at, set_at, append_snoc, take-length}
+use lib.ListN.{length, get_or, take, drop, replicate, take-append-drop}
+use lib.Seq.{length-take-le, drop-cons, get_or_at, take-length}
 use lib.Dec.{T, eqb, ltb}
 use borrow.Author.Tests.{eqb-true, ltb-false, lt-ltb, not-false}
 use Rattle.bits.specs.Bit.{level_byte}
 use Rattle.kind.specs.declared.Kind.{Kind}
 use Rattle.kind.specs.declared.Kind.TheVariants as kinds
 use Rattle.kind.specs.Kind.{is_sram}
+use Rattle.image.proofs.Counted.{some_refusal}
 use Rattle.image.specs.Image.{count_of}
 use Rattle.image.specs.Refusal.{some_below}
 use Rattle.image.proofs.Accepted.{Known, accepted-known}
 use Rattle.line.specs.Transfers.{goes_on, received}
 use Rattle.device.specs.declared.LineState.{LineState}
 use Rattle.device.specs.Device.{waiting_state, stage_copy}
-use Rattle.recording.specs.Recorded.{agrees_at}
+use Rattle.recording.specs.Recorded.{agrees_at, level_at}
 use Rattle.bus.specs.Bus.{Device, event_of, level_of, bus_step_at, bus_step, Run, with_answer, run_trace}
 use Rattle.bus.specs.Run.{waiting_devices, states_of}
 use Rattle.bus.specs.Refusal.{no_first_reset, run_refusal}
@@ -30,13 +31,13 @@ use Rattle.bus.proofs.Ranges.{AllIn, run_in}
 use Rattle.bus.proofs.Runs.{run-append, run_length, run-same, same_length}
 use Rattle.bus.proofs.Shown.{Stand, stand-same, image_of, device-is, level-is, turned-is, waiting-all, waiting-stands, waiting-in, waiting-image, waiting-states, filled_is}
 use Rattle.judge.specs.declared.Rule.TheVariants as rules
-use Rattle.judge.specs.declared.Verdict.{Verdict}
-use Rattle.judge.specs.declared.Verdict.TheVariants.{Accepted, Broken, Refused}
+use Rattle.image.specs.declared.Refusal.{Refusal}
+use Rattle.image.specs.Refusal.{refusal_number}
+use Rattle.judge.specs.Judge.{Verdict, Accepted, Broken, Refused, First, none, at, or_here, first_below, verdict_by, verdict_of, JudgeOutcome, judge_outcome, JudgeLeaves, left_by_judge, judge_at, judge_of}
 use Rattle.judge.specs.declared.Seen.{Seen}
 use Rattle.judge.specs.Rules.{Moment, at_memory_command, is_memory_command, completes, is_made, accepts_copy, wanted_bits, shown_since_write, device_at, devices_at, moment_at, moments_of, breaks_a, count_below, breaks_b, breaks_c}
 use Rattle.judge.specs.Refusal.{judge_refusal}
-use Rattle.judge.specs.Judge.{First, none, at, or_here, first_below, verdict_by, verdict_of, JudgeOutcome, judge_outcome, JudgeLeaves, left_by_judge, judge_at, judge_of}
-use Rattle.judge.specs.Loops.{level_at, slot_at, body_in, careless_at, pattern_accepted, careful_at, doing_of, seen_so, seen_by, seen_with, seen_up_to, verdict_here, verdict_kept, verdict_next, laid_up_to, JudgeState, judge_state, judge_event_at, judge_events_up_to}
+use Rattle.judge.specs.Loops.{slot_at, body_in, careless_at, pattern_accepted, careful_at, doing_of, seen_so, seen_by, seen_with, seen_up_to, verdict_here, verdict_kept, verdict_next, JudgeState, judge_state, judge_event_at, judge_events_up_to}
 use Rattle.judge.proofs.Laws.{judged-room, refused-as-run}
 use Rattle.judge.proofs.Rest.{take-drop, device-q, turns-q}
 use Rattle.judge.proofs.Devices.{careless_by, plus, seen-stage, careless-stage, last_in, accepts-is, completes-is, devices-next, range_at, range-stage, careful-at}
@@ -319,21 +320,11 @@ module _ (image trace answers rest : List ℕ) (tail : List LineState) (known : 
 
 -- ---- the judge
 
-laid-is : (k : ℕ) (image work : List ℕ) → k ≤ length image → k ≤ length work → laid_up_to k image work ≡ take k image ++ drop k work
-unfolding laid_up_to
-laid-is zero image work h g = refl
-laid-is (suc k) image work h g =
-    let v = get_or image k 0 in
-    ap (λ (l : List ℕ). set l k v) (laid-is k image work (omega (arith, h)) (omega (arith, g)) ∙ ap (λ (l : List ℕ). take k image ++ l) (drop-cons work k 0 g))
-    ∙ set_at (take k image) (get_or work k 0) (drop (suc k) work) v k (length-take-le k image (omega (arith, h)))
-    ∙ sym (append_snoc (take k image) v (drop (suc k) work))
-    ∙ ap (λ (l : List ℕ). l ++ drop (suc k) work) (sym (take-suc image k 0 h))
-
 -- what the loops make of work space and line states
 abbrev pub judged : List ℕ → List ℕ → List ℕ → List ℕ → List LineState → JudgeState
 judged image trace answers work lines =
     judge_events_up_to trace answers (count_of image) (length trace)
-    (judge_state Accepted (laid_up_to (length image) image work) (filled_up_to (fewer_of (count_of image) (length lines)) waiting_state lines))
+    (judge_state Accepted (image ++ drop (length image) work) (filled_up_to (fewer_of (count_of image) (length lines)) waiting_state lines))
 
 -- what is not refused: what the run admits, with as many answers and room for the image
 pub record Admits (image trace : List ℕ) (answers work lines : ℕ) : Type 0 where
@@ -369,9 +360,8 @@ judge-shown image trace answers work lines e =
     let rest = drop (length image) work in
     let first = has.run.reset-first in
     let len = has.as_many in
-    let began : laid_up_to (length image) image work ≡ Q image trace answers rest tail known first len 0 =
-    laid-is (length image) image work (omega arith) has.work-room ∙ ap (λ (l : List ℕ). l ++ rest) (take-length image)
-    ∙ sym (start-work image trace answers rest tail known first len) in
+    let began : image ++ rest ≡ Q image trace answers rest tail known first len 0 =
+    sym (start-work image trace answers rest tail known first len) in
     let stood : filled_up_to (fewer_of n (length lines)) waiting_state lines ≡ Ls image trace answers rest tail known first len 0 =
     ap (λ (m : ℕ). filled_up_to m waiting_state lines) (fewer-first n (length lines) has.run.lines-room)
     ∙ filled_is n waiting_state lines has.run.lines-room
@@ -387,12 +377,12 @@ unfolding judge_at
 refused-at zero image trace answers work lines t = absurd t
 refused-at (suc m) image trace answers work lines t = refl
 
-pub judge-refused : (image trace answers work : List ℕ) (lines : List LineState)
-    → T (not (eqb (judge_refusal image trace (length answers) (length work) (length lines)) 0))
-    → judge_outcome (Refused (judge_refusal image trace (length answers) (length work) (length lines))) work lines ≡ judge_of image trace answers work lines
+pub judge-refused : (refusal : Refusal) (image trace answers work : List ℕ) (lines : List LineState)
+    → refusal_number refusal ≡ judge_refusal image trace (length answers) (length work) (length lines)
+    → judge_outcome (Refused (refusal_number refusal)) work lines ≡ judge_of image trace answers work lines
 unfolding judge_of
-judge-refused image trace answers work lines t =
-    refused-at (judge_refusal image trace (length answers) (length work) (length lines)) image trace answers work lines t
+judge-refused refusal image trace answers work lines e =
+    refused-at (refusal_number refusal) image trace answers work lines (some_refusal refusal) ∙ ap (λ (m : ℕ). judge_at m image trace answers work lines) e
 
 -- what the judge left, as one equation and as an equation for each thing
 pub judge-leaves : (left : JudgeOutcome) (verdict : Verdict) (work : List ℕ) (lines : List LineState)

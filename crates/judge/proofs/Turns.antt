@@ -1,7 +1,7 @@
 -- What the loops of `look` and `judge_events` keep from turn to turn, as their invariants say it. A line state that a
 -- loop reads is `get_or` at a default of the compiler's choice.
-use Rattle.std.proofs.Common.{◌≡◌, ℕ, suc, ◌+◌, ◌<◌, ◌≤◌, Bool, false, cond, List, length, get_or, refl, sym, ap, ◌∙◌, add-one, arith}
-use Rattle.std.proofs.lemmas.List.{get_or_default}
+use Rattle.std.proofs.Common.{◌≡◌, ℕ, suc, ◌+◌, ◌<◌, ◌≤◌, Bool, false, cond, List, length, take, get_or, refl, sym, ap, ◌∙◌, add-one, arith}
+use Rattle.std.proofs.lemmas.List.{get_or_default, get_or-take, length-take-le}
 use borrow.Author.Tests.{lt-ltb}
 use Rattle.device.specs.declared.LineState.{LineState}
 use Rattle.device.specs.Device.{waiting_state}
@@ -10,7 +10,7 @@ use Rattle.bus.specs.declared.EventResult.{EventResult}
 use Rattle.bus.specs.Loops.{line_at, level_on, scan_on, copied_on, step_on, event_result, BusState, bus_state, turns_up_to}
 use Rattle.bus.proofs.Laws.{step-on}
 use Rattle.judge.specs.declared.Seen.{Seen}
-use Rattle.judge.specs.declared.Verdict.{Verdict}
+use Rattle.judge.specs.Judge.{Verdict}
 use Rattle.judge.specs.Loops.{seen_with, at_memory, seen_up_to, verdict_next, still_looked_at}
 use Rattle.judge.specs.Loops.{JudgeState, judge_state, judge_event_at, judge_events_up_to}
 use Rattle.judge.proofs.Laws.{seen_few, rom-adds-nothing, still-enough}
@@ -28,19 +28,29 @@ module _ (trace answers image : List ℕ) (lines : List LineState) (k i : ℕ) (
   unfolding seen_up_to
   seen_next = rw add-one refl
 
+  -- a device that the loop reads out of the first n lines
+  read : (n : ℕ) (d : LineState) → i < length (take n lines) → n ≤ length lines → get_or (take n lines) i d ≡ line_at lines i
+  read n d within few =
+      get_or-take n lines i d (omega (arith, within, length-take-le n lines few))
+      ∙ get_or_default lines i d waiting_state (omega (arith, within, length-take-le n lines few))
+
   -- the device at place i is past the ROM stage, and is looked at
-  pub look_done : (d : LineState) → i < length lines → (next : Seen)
-      → next ≡ seen_with trace answers image k i (get_or lines i d) seen
+  pub look_done : (n : ℕ) (d : LineState) → i < length (take n lines) → n ≤ length lines → (next : Seen)
+      → next ≡ seen_with trace answers image k i (get_or (take n lines) i d) seen
       → next ≡ seen_up_to trace answers image lines k (i + 1)
-  look_done d within next e =
-      e ∙ ap (λ (l : LineState). seen_with trace answers image k i l seen) (get_or_default lines i d waiting_state within)
+  look_done n d within few next e =
+      e ∙ ap (λ (l : LineState). seen_with trace answers image k i l seen) (read n d within few)
       ∙ ap (seen_with trace answers image k i (line_at lines i)) so_far
       ∙ sym seen_next
 
   -- it is in the ROM stage, and adds nothing
-  pub look_rom : at_memory (line_at lines i).transfer.stage ≡ false → seen ≡ seen_up_to trace answers image lines k (i + 1)
-  look_rom e =
-      so_far ∙ sym (rom-adds-nothing trace answers image lines k i e) ∙ ap (seen_up_to trace answers image lines k) (sym (add-one i))
+  pub look_rom : (n : ℕ) (d : LineState) → i < length (take n lines) → n ≤ length lines
+      → at_memory (get_or (take n lines) i d).transfer.stage ≡ false → seen ≡ seen_up_to trace answers image lines k (i + 1)
+  look_rom n d within few e =
+      so_far
+      ∙ sym (rom-adds-nothing trace answers image lines k i
+      (ap (λ (l : LineState). at_memory l.transfer.stage) (sym (read n d within few)) ∙ e))
+      ∙ ap (seen_up_to trace answers image lines k) (sym (add-one i))
 
 -- ---- `judge_events`
 

@@ -1,16 +1,33 @@
 -- Document 02, item 5, is stated here: the verdict on a recorded session, and what the judge returns and leaves, for
 -- every image, trace, recorded answers, work space and line states.
-use Rattle.std.specs.Prelude.{ℕ, zero, suc, ◌≡◌, Bool, cond, ◌||◌, List, ◌++◌, length, drop}
+use Rattle.std.specs.Prelude.{ℕ, zero, suc, ◌≡◌, Bool, cond, ◌||◌, List, ◌++◌, length, drop, Option, None, Some}
+use Rattle.std.specs.Prelude.{Result, Ok, Err}
+use Rattle.image.specs.declared.Refusal.{Refusal}
+use Rattle.image.specs.Refusal.{refusal_number}
 use Rattle.image.specs.Image.{count_of}
 use Rattle.device.specs.declared.LineState.{LineState}
 use Rattle.bus.specs.Bus.{Device, Run, run_trace}
 use Rattle.bus.specs.Run.{waiting_devices, table_of_contents, bodies_of, states_of}
 use Rattle.judge.specs.declared.Rule.{Rule}
 use Rattle.judge.specs.declared.Rule.TheVariants.{Answers, Command, Copy}
-use Rattle.judge.specs.declared.Verdict.{Verdict}
-use Rattle.judge.specs.declared.Verdict.TheVariants.{Accepted, Broken, Refused}
+use Rattle.judge.specs.declared.Broken as broken
 use Rattle.judge.specs.Rules.{breaks_a, breaks_b, breaks_c}
 use Rattle.judge.specs.Refusal.{judge_refusal}
+
+-- A recording is accepted, breaks a rule in an event, which is the first that does, or is refused with a number.
+pub data Verdict : Type 0 where
+  Accepted : Verdict
+  Broken : Rule → ℕ → Verdict
+  Refused : ℕ → Verdict
+
+-- What the judge holds while it goes over a recording, and what it answers, as verdicts.
+unfoldable pub so_far : Option broken.Broken → Verdict
+so_far None = Accepted
+so_far (Some b) = Broken b.rule b.event
+
+unfoldable pub told : Result (Option broken.Broken) Refusal → Verdict
+told (Ok verdict) = so_far verdict
+told (Err refusal) = Refused (refusal_number refusal)
 
 -- ---- the numbers of a verdict
 

@@ -1,7 +1,7 @@
 -- Nothing here is from document 02. These definitions say what the functions of `src/` below `judge` do, for any image,
 -- recording and line states, with each loop's state by recursion on how many turns it has made. Where the recording is
 -- not refused, this is what `Rules.antt` and `Judge.antt` say (`proofs/Shown.antt`).
-use Rattle.std.specs.Prelude.{ℕ, zero, suc, ◌+◌, ◌-◌, ◌*◌, Bool, true, false, not, cond, ◌&&◌, ◌||◌, List, get_or, set}
+use Rattle.std.specs.Prelude.{ℕ, zero, suc, ◌+◌, ◌-◌, ◌*◌, Bool, true, false, not, cond, ◌&&◌, ◌||◌, List, get_or}
 use Rattle.std.specs.Prelude.{take, drop, eqb, ltb}
 use Rattle.std.specs.Bool.{beq}
 use Rattle.bits.specs.Bit.{bit_at}
@@ -17,14 +17,13 @@ use Rattle.line.specs.Transfers.{waiting, goes_on, received}
 use Rattle.sram.specs.Sram.{target_offset, ending_offset, pattern_same}
 use Rattle.device.specs.declared.LineState.{LineState}
 use Rattle.device.specs.Device.{line_state, waiting_state, reset_at, state_after_slot_as_is}
-use Rattle.recording.specs.Recorded.{agrees_at}
+use Rattle.recording.specs.Recorded.{agrees_at, level_at}
 use Rattle.bus.specs.declared.Place.{Place}
 use Rattle.bus.specs.Bus.{device_with, event_of, hears, is_slot, is_overdrive}
 use Rattle.bus.specs.Loops.{place_in, next_state_as_is, line_at, level_on, bus_state, turns_up_to}
 use Rattle.judge.specs.declared.Rule.{Rule}
 use Rattle.judge.specs.declared.Rule.TheVariants as rules
-use Rattle.judge.specs.declared.Verdict.{Verdict}
-use Rattle.judge.specs.declared.Verdict.TheVariants.{Accepted, Broken, Refused}
+use Rattle.judge.specs.Judge.{Verdict, Accepted, Broken, Refused}
 use Rattle.judge.specs.declared.Doing.{Doing}
 use Rattle.judge.specs.declared.Doing.TheVariants.{Command, Address, Pattern, Other}
 use Rattle.judge.specs.declared.Mark.{Mark}
@@ -34,10 +33,6 @@ use Rattle.judge.specs.declared.Back.{Back}
 use Rattle.judge.specs.declared.Seen.{Seen}
 
 -- ---- one device at one event
-
--- The recorded answer of event k as a level.
-unfoldable pub level_at : List ℕ → ℕ → Bool
-level_at answers k = eqb (get_or answers k 0) 1
 
 -- What a device does in a stage, as far as the rules look at it.
 unfoldable pub sram_doing : SramStage → Doing
@@ -116,11 +111,10 @@ shown_from trace answers body overdrive at (suc due) k (suc left) =
     (passed_at (get_or trace k 0) overdrive
     && shown_from trace answers body overdrive at (suc due) (suc k) left)
 
--- A read goes on in event k, which comes before event `end`, with bit `at`.
-unfoldable pub reads_on : List ℕ → List ℕ → List ℕ → Bool → ℕ → ℕ → ℕ → Bool
-reads_on trace answers body overdrive end k at =
-    ltb k end
-    && cond (slot_at (get_or trace k 0) overdrive) (beq (level_at answers k) (wanted_bit body at))
+-- A read goes on in event k with bit `at`.
+unfoldable pub goes_on_at : List ℕ → List ℕ → List ℕ → Bool → ℕ → ℕ → Bool
+goes_on_at trace answers body overdrive k at =
+    cond (slot_at (get_or trace k 0) overdrive) (beq (level_at answers k) (wanted_bit body at))
     (passed_at (get_or trace k 0) overdrive)
 
 unfoldable pub bits_in : ℕ → Bool → ℕ
@@ -187,9 +181,6 @@ back_at trace answers kind body j back =
     cond (begins_part (get_or trace j 0) back.overdrive)
     (back_by j back before (part_from trace answers kind body back.end j))
     (back_over back before)
-
-unfoldable pub looks_back : ℕ → Back → Bool
-looks_back j back = ltb 0 j && not back.decided
 
 unfoldable pub back_from : List ℕ → List ℕ → Kind → List ℕ → ℕ → Back → Back
 back_from trace answers kind body zero back = back
@@ -277,11 +268,6 @@ still_looked_at (Broken rule event) n = 0
 still_looked_at (Refused number) n = 0
 
 -- ---- a trace
-
--- The first k bytes of the image are laid over the work space.
-unfoldable pub laid_up_to : ℕ → List ℕ → List ℕ → List ℕ
-laid_up_to zero image work = work
-laid_up_to (suc k) image work = set (laid_up_to k image work) k (get_or image k 0)
 
 -- Verdict, work space and line states change together: `judge_event_at` is event k of a recording on n devices, and
 -- `judge_events_up_to` are the first k events.

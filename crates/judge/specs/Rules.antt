@@ -2,7 +2,7 @@
 -- a bench, in the words of the run (`Bus.antt` of the crate `bus`). Events are counted from 0. A device takes part in
 -- an event only where it hears it.
 use Rattle.std.specs.Prelude.{ℕ, zero, suc, ◌+◌, ◌-◌, ◌*◌, Bool, true, false, not, cond, ◌&&◌, ◌||◌, List, [], ◌∷◌}
-use Rattle.std.specs.Prelude.{◌++◌, length, get_or, take, eqb, ltb}
+use Rattle.std.specs.Prelude.{◌++◌, length, get_or, take, eqb, ltb, Option, Some, None}
 use Rattle.std.specs.Bool.{beq}
 use Rattle.bits.specs.Bit.{bit_at}
 use Rattle.kind.specs.Kind.{ta1, scratchpad}
@@ -17,8 +17,7 @@ use Rattle.line.specs.declared.Stage.{Stage}
 use Rattle.line.specs.declared.Stage.TheVariants.{Rom, Memory}
 use Rattle.line.specs.declared.Transfer.{Transfer}
 use Rattle.line.specs.Transfers.{goes_on, received}
-use Rattle.sram.specs.declared.CopyDone.{CopyDone}
-use Rattle.sram.specs.declared.CopyDone.TheVariants.{NoCopy, Made}
+use Rattle.sram.specs.declared.Written.{Written}
 use Rattle.sram.specs.Sram.{target_offset, ending_offset}
 use Rattle.device.specs.Device.{waiting_state, copy_in_slot}
 use Rattle.bus.specs.declared.Event.{Event}
@@ -101,9 +100,9 @@ writes m = heard_slot m && (is_write_address (transfer_of m.device).stage && is_
 
 -- A copy is accepted with the last bit of a pattern that is equal to the registers: the run then makes a copy, be it of
 -- nothing.
-unfoldable pub is_made : CopyDone → Bool
-is_made NoCopy = false
-is_made (Made address bytes) = true
+unfoldable pub is_made : Option Written → Bool
+is_made None = false
+is_made (Some written) = true
 
 unfoldable pub accepts_copy : Moment → Bool
 accepts_copy m =

@@ -9,42 +9,44 @@
 #![tactic(auto)]
 
 ghost use Rattle.std.specs.Prelude.{◌≡◌, ◌≤◌, ◌<◌, ◌+◌, ◌-◌, true, false, cond, ◌||◌, length, eqb};
+ghost use Rattle.image.specs.Refusal.{told_number};
 ghost use Rattle.sram.specs.Sram.{target_offset};
 ghost use Rattle.device.specs.Device.{reset_at};
-ghost use Rattle.bus.specs.Bus.{device_with, event_of};
+ghost use Rattle.bus.specs.Bus.{device_with};
 ghost use Rattle.bus.specs.Loops.{place_in, next_state_as_is};
 ghost use Rattle.judge.specs.Refusal.{judge_refusal};
-ghost use Rattle.judge.specs.declared.Verdict.TheVariants.{Accepted, Refused};
-ghost use Rattle.judge.specs.Judge.{rule_number, refusal_of, rule_of, broken_at, JudgeLeaves, judge_of};
-ghost use Rattle.judge.specs.Loops.{level_at, sram_doing, memory_doing, doing_of, slot_at, passed_at, after_slot_at};
-ghost use Rattle.judge.specs.Loops.{line_next, mark_by, mark_of, wanted_bytes, wanted_bit, reads_on, bits_in};
+ghost use Rattle.judge.specs.Judge.{Accepted, so_far, told, rule_number, refusal_of, rule_of, broken_at};
+ghost use Rattle.judge.specs.Judge.{JudgeLeaves, judge_of};
+ghost use Rattle.judge.specs.Loops.{doing_of, slot_at, passed_at, after_slot_at};
+ghost use Rattle.judge.specs.Loops.{line_next, mark_by, mark_of, wanted_bytes, wanted_bit, goes_on_at, bits_in};
 ghost use Rattle.judge.specs.Loops.{shown_from};
 ghost use Rattle.judge.specs.Loops.{read_shown, part_so, part_by, part_at, part_over, overdrive_before, begins_part};
-ghost use Rattle.judge.specs.Loops.{back_by, back_over, back_at, looks_back, careful_by, careful_at};
-ghost use Rattle.judge.specs.Loops.{pattern_accepted, careless_at, seen_with, at_memory, seen_up_to, nothing_seen};
-ghost use Rattle.judge.specs.Loops.{verdict_here, verdict_kept, verdict_next, laid_up_to, judge_state};
+ghost use Rattle.judge.specs.Loops.{back_by, back_at, careful_at};
+ghost use Rattle.judge.specs.Loops.{pattern_accepted, careless_at, seen_with, at_memory, seen_up_to};
+ghost use Rattle.judge.specs.Loops.{verdict_here, verdict_kept, verdict_next, judge_state};
 ghost use Rattle.judge.specs.Loops.{judge_events_up_to, still_looked_at};
 
+use bus::Event;
 use device::LineState;
-use image::ACCEPTED;
+use image::{ACCEPTED, Refusal};
 use kind::Kind;
 use line::{MemoryStage, SramStage, Stage};
+use recording::Recording;
 
 // Document 02's rules A, B and C: the answers are the bench's; no write or copy command goes to more than one device;
 // each copy was read back before.
-#[derive(Clone, Copy)]
+#[derive(Clone, Copy, Debug, PartialEq, Eq)]
 pub enum Rule {
     Answers,
     Command,
     Copy,
 }
 
-#[derive(Clone, Copy)]
-pub enum Verdict {
-    Accepted,
-    // The event is the first that breaks the rule.
-    Broken { rule: Rule, event: usize },
-    Refused(u32),
+// The event is the first that breaks the rule.
+#[derive(Clone, Copy, Debug, PartialEq, Eq)]
+pub struct Broken {
+    pub rule: Rule,
+    pub event: usize,
 }
 
 // What a device does in a stage, as far as the rules look at it.
@@ -69,7 +71,7 @@ enum Mark {
 
 // A part of the trace has `wrote` if it has a write, and `shown` if a read after the last of its writes, or any read
 // where it has none, showed what it had to.
-#[derive(Clone, Copy)]
+#[derive(Clone, Copy, Default)]
 struct Part {
     wrote: bool,
     shown: bool,
@@ -89,11 +91,19 @@ struct Back {
 
 // Of the devices that were looked at in an event, so many are at the memory command; where `completed` is true one of
 // them completes a write or copy command in it, and where `careless` is true one accepts a copy that was not read back.
-#[derive(Clone, Copy)]
+#[derive(Clone, Copy, Default)]
 struct Seen {
     commands: usize,
     completed: bool,
     careless: bool,
+}
+
+// A device that is followed over a recording by value: it has this kind, and this body at the copy that is looked at.
+#[derive(Clone, Copy)]
+struct Followed<'a> {
+    recording: Recording<'a>,
+    kind: Kind,
+    body: &'a [u8],
 }
 
 const READ_SCRATCHPAD: u8 = 0xAA;
@@ -102,56 +112,22 @@ const WRITE_SCRATCHPAD: u8 = 0x0F;
 
 const COPY_SCRATCHPAD: u8 = 0x55;
 
-// This event is the regular reset.
-const RESET: u8 = 2;
-
-const OVERDRIVE_RESET: u8 = 6;
-
 // TA1, TA2 and E/S have so many bits.
 const REGISTER_BITS: usize = 24;
 
 // ---- one device at one event
 
-// A recorded answer counts as the level of the line. Where it is not, rule A is broken, and no other rule counts.
-fn level_at(answers: &[u8], k: usize) -> bool
-    ensures { result ≡ level_at answers.now k }
-{
-    bits::byte_at(answers, k) == 1
-}
-
-fn sram_doing(s: SramStage) -> Doing
-    ensures { result ≡ sram_doing s }
-{
-    match s {
-        SramStage::WriteLow => Doing::Other,
-        SramStage::WriteHigh { low: _ } => Doing::Address,
-        SramStage::WriteData { offset: _, bit: _ } => Doing::Other,
-        SramStage::ReadRegister { at: _ } => Doing::Other,
-        SramStage::ReadScratchpad { offset: _ } => Doing::Other,
-        SramStage::CopyPattern { at, same } => Doing::Pattern { at, same },
-        SramStage::Copied => Doing::Other,
-        SramStage::ReadLow => Doing::Other,
-        SramStage::ReadHigh { low: _ } => Doing::Other,
-        SramStage::ReadMemory { low: _, high: _ } => Doing::Other,
-    }
-}
-
-fn memory_doing(m: MemoryStage) -> Doing
-    ensures { result ≡ memory_doing m }
-{
-    match m {
-        MemoryStage::Command => Doing::Command,
-        MemoryStage::Sram(s) => sram_doing(s),
-        MemoryStage::Eprom(_) => Doing::Other,
-    }
-}
-
+// As it is: it has the part of a stage that the rules look at, and so is no conversion of one value into another.
 fn doing_of(stage: Stage) -> Doing
     ensures { result ≡ doing_of stage }
 {
     match stage {
-        Stage::Rom(_) => Doing::Other,
-        Stage::Memory(m) => memory_doing(m),
+        Stage::Memory(MemoryStage::Command) => Doing::Command,
+        Stage::Memory(MemoryStage::Sram(SramStage::WriteHigh { .. })) => Doing::Address,
+        Stage::Memory(MemoryStage::Sram(SramStage::CopyPattern { at, same })) => {
+            Doing::Pattern { at, same }
+        }
+        _ => Doing::Other,
     }
 }
 
@@ -161,13 +137,9 @@ fn doing_of(stage: Stage) -> Doing
 fn is_slot_at(byte: u8, overdrive: bool) -> bool
     ensures { result ≡ slot_at byte overdrive }
 {
-    match byte {
-        0 => !overdrive,
-        1 => !overdrive,
-        2 => false,
-        4 => overdrive,
-        5 => overdrive,
-        6 => false,
+    match Event::from(byte) {
+        Event::Slot(_) => !overdrive,
+        Event::OverdriveSlot(_) => overdrive,
         _ => false,
     }
 }
@@ -176,19 +148,13 @@ fn is_slot_at(byte: u8, overdrive: bool) -> bool
 fn is_passed_at(byte: u8, overdrive: bool) -> bool
     ensures { result ≡ passed_at byte overdrive }
 {
-    match byte {
-        0 => false,
-        1 => false,
-        2 => false,
-        4 => !overdrive,
-        5 => !overdrive,
-        6 => !overdrive,
-        _ => false,
-    }
+    let event = Event::from(byte);
+    matches!(event, Event::OverdriveSlot(_) | Event::OverdriveReset) & !overdrive
 }
 
 // A slot at the device's own speed is one step of it. Of the others a regular one makes it wait, and one at overdrive
 // leaves it as it is.
+#[tactic(auto, unfolding(crate::specs::Loops::after_slot_at))]
 fn after_slot(state: LineState, kind: Kind, body: &[u8], overdrive: bool, level: bool) -> LineState
     ensures { result ≡ after_slot_at state kind body.now overdrive level }
 {
@@ -211,67 +177,38 @@ fn after_overdrive_reset(state: LineState) -> LineState
 }
 
 // This is the line state after an event at a level, as the bus has it; the body is only read.
-fn after_event(state: LineState, kind: Kind, body: &[u8], byte: u8, level: bool) -> LineState
-    ensures { result ≡ next_state_as_is (event_of byte) level (device_with kind body.now state) }
+fn after_event(state: LineState, kind: Kind, body: &[u8], event: Event, level: bool) -> LineState
+    ensures { result ≡ next_state_as_is event level (device_with kind body.now state) }
 {
-    match byte {
-        0 => after_slot(state, kind, body, false, level),
-        1 => after_slot(state, kind, body, false, level),
-        2 => LineState::at_reset(false),
-        4 => after_slot(state, kind, body, true, level),
-        5 => after_slot(state, kind, body, true, level),
-        6 => after_overdrive_reset(state),
-        _ => state.pulsed_as_is(body),
+    match event {
+        Event::Slot(_) => after_slot(state, kind, body, false, level),
+        Event::Reset => LineState::at_reset(false),
+        Event::Pulse => state.pulsed_as_is(body),
+        Event::OverdriveSlot(_) => after_slot(state, kind, body, true, level),
+        Event::OverdriveReset => after_overdrive_reset(state),
     }
-}
-
-// This is the line state after event k of a recording.
-fn line_next(
-    trace: &[u8],
-    answers: &[u8],
-    kind: Kind,
-    body: &[u8],
-    k: usize,
-    state: LineState,
-) -> LineState
-    ensures { result ≡ line_next trace.now answers.now kind body.now k state }
-{
-    after_event(
-        state,
-        kind,
-        body,
-        bits::byte_at(trace, k),
-        level_at(answers, k),
-    )
 }
 
 // The event is marked if it is the last slot of a read's command or of a write's address; `value` is the byte that was
 // received up to it.
+#[tactic(auto, unfolding(crate::specs::Loops::mark_by))]
 fn mark_by(doing: Doing, last: bool, value: u8) -> Mark
     ensures { result ≡ mark_by doing last value }
 {
     match doing {
-        Doing::Command => {
-            if last & (value == READ_SCRATCHPAD) {
-                Mark::Reads
-            } else {
-                Mark::Unmarked
-            }
-        }
-        Doing::Address => { if last { Mark::Wrote } else { Mark::Unmarked } }
-        Doing::Pattern { at: _, same: _ } => Mark::Unmarked,
-        Doing::Other => Mark::Unmarked,
+        Doing::Command if last & (value == READ_SCRATCHPAD) => Mark::Reads,
+        Doing::Address if last => Mark::Wrote,
+        _ => Mark::Unmarked,
     }
 }
 
+#[tactic(auto, unfolding(crate::specs::Loops::mark_of))]
 fn mark_of(state: LineState, byte: u8, level: bool) -> Mark
     ensures { result ≡ mark_of state byte level }
 {
-    let transfer = state.transfer;
-    let stage = transfer.stage;
     let last = is_slot_at(byte, state.overdrive) & !state.goes_on();
-    let value = bits::shift_in(transfer.register, level);
-    mark_by(doing_of(stage), last, value)
+    let value = bits::shift_in(state.transfer.register, level);
+    mark_by(doing_of(state.transfer.stage), last, value)
 }
 
 // ---- what a read showed
@@ -280,20 +217,20 @@ fn mark_of(state: LineState, byte: u8, level: bool) -> Mark
 fn first_offset(body: &[u8]) -> u8
     ensures { (result ≡ target_offset body.now) × (result < 32) }
 {
-    bits::byte_at(body, kind::TA1) % kind::SCRATCHPAD_LENGTH
+    sram::target_offset(body)
 }
 
 // So many bytes lie from T4:T0 through the ending offset.
+#[tactic(auto, unfolding(crate::specs::Loops::wanted_bytes))]
 fn wanted_bytes(body: &[u8]) -> u8
     ensures { (result ≡ wanted_bytes body.now) × (result ≤ 32) }
 {
-    let first = first_offset(body);
-    let last = bits::byte_at(body, kind::ES) % kind::SCRATCHPAD_LENGTH;
-    if last < first { 0 } else { last + 1 - first }
+    (sram::ending_offset(body) + 1).saturating_sub(first_offset(body))
 }
 
 // A read is to show the registers, then the bytes from T4:T0 through the ending offset. This is bit `at` of them, by
 // its value in the body as it is at the copy.
+#[tactic(auto, unfolding(crate::specs::Loops::wanted_bit))]
 fn wanted_bit(body: &[u8], at: usize) -> bool
     requires { at < 1024 }
     ensures { result ≡ wanted_bit body.now at }
@@ -301,171 +238,16 @@ fn wanted_bit(body: &[u8], at: usize) -> bool
     if at < REGISTER_BITS {
         return bits::bit_at(body, 8 * kind::TA1 + at);
     }
-    let place = 8 * (kind::SCRATCHPAD + bits::wide(first_offset(body)));
+    let place = 8 * (kind::SCRATCHPAD + usize::from(first_offset(body)));
     bits::bit_at(body, place + (at - REGISTER_BITS))
 }
 
-// A read of a device, which is at overdrive or not, goes on in event k if this is a slot that it hears and that shows
-// bit `at`, or if it passes over it. Event `end` is past the part of the trace in which the read lies.
-fn reads_on(
-    trace: &[u8],
-    answers: &[u8],
-    body: &[u8],
-    overdrive: bool,
-    end: usize,
-    k: usize,
-    at: usize,
-) -> bool
-    requires { at < 1024 }
-    ensures { result
-        ≡ reads_on trace.now answers.now body.now overdrive end k at }
-{
-    let byte = bits::byte_at(trace, k);
-    if end <= k {
-        return false;
-    }
-    if is_slot_at(byte, overdrive) {
-        return level_at(answers, k) == wanted_bit(body, at);
-    }
-    is_passed_at(byte, overdrive)
-}
-
 // A slot that the device hears shows one bit, and an event that it passes over shows none.
+#[tactic(auto, unfolding(crate::specs::Loops::bits_in))]
 fn bits_in(byte: u8, overdrive: bool) -> usize
     ensures { (result ≡ bits_in byte overdrive) × (result ≤ 1) }
 {
-    if is_slot_at(byte, overdrive) { 1 } else { 0 }
-}
-
-// This tells whether the recorded answers from event k on, before event `end`, show as many bits as are due.
-fn bits_shown(
-    trace: &[u8],
-    answers: &[u8],
-    body: &[u8],
-    overdrive: bool,
-    end: usize,
-    k: usize,
-    count: usize,
-) -> bool
-    requires { count ≤ 1024 }
-    ensures { result ≡ shown_from trace.now answers.now body.now overdrive 0 count k
-        (end - k) }
-{
-    let mut event = k;
-    let mut at: usize = 0;
-    let mut due = count;
-    while 0 < due {
-        if !reads_on(trace, answers, body, overdrive, end, event, at) {
-            return false;
-        }
-        let shown = bits_in(bits::byte_at(trace, event), overdrive);
-        at += shown;
-        due -= shown;
-        event += 1;
-    }
-    true
-}
-
-// A read whose command completed in the event before k showed all that is to be copied.
-fn read_shown(
-    trace: &[u8],
-    answers: &[u8],
-    body: &[u8],
-    overdrive: bool,
-    end: usize,
-    k: usize,
-) -> bool
-    ensures { result
-        ≡ read_shown trace.now answers.now body.now overdrive end k }
-{
-    let count = REGISTER_BITS + 8 * bits::wide(wanted_bytes(body));
-    bits_shown(trace, answers, body, overdrive, end, k, count)
-}
-
-// ---- the part of a trace from a reset that the device heard to the next
-
-// A write leaves nothing of what was shown before it.
-fn part_by(
-    trace: &[u8],
-    answers: &[u8],
-    body: &[u8],
-    overdrive: bool,
-    end: usize,
-    k: usize,
-    part: Part,
-    mark: Mark,
-) -> Part
-    requires { k < 18446744073709551615 }
-    ensures { result
-        ≡ part_by trace.now answers.now body.now overdrive end k part mark }
-{
-    match mark {
-        Mark::Unmarked => part,
-        Mark::Wrote => Part {
-            wrote: true,
-            shown: false,
-        },
-        Mark::Reads => {
-            let here = read_shown(trace, answers, body, overdrive, end, k + 1);
-            Part {
-                wrote: part.wrote,
-                shown: part.shown | here,
-            }
-        }
-    }
-}
-
-// Event k, which finds the device in a line state, leaves this part.
-fn part_at(
-    trace: &[u8],
-    answers: &[u8],
-    body: &[u8],
-    end: usize,
-    k: usize,
-    state: LineState,
-    part: Part,
-) -> Part
-    requires { k < 18446744073709551615 }
-    ensures { result
-        ≡ part_at trace.now answers.now body.now end k state part }
-{
-    let mark = mark_of(state, bits::byte_at(trace, k), level_at(answers, k));
-    part_by(trace, answers, body, state.overdrive, end, k, part, mark)
-}
-
-fn empty_part() -> Part
-    ensures { result ≡ part_so false false }
-{
-    Part {
-        wrote: false,
-        shown: false,
-    }
-}
-
-// These are the writes and reads of a device from event `from` up to event `end`. The reset before them left the device
-// at overdrive or at regular speed. It is followed by the recorded answers; its body may be that of a later time, as
-// nothing that is marked depends on more than the code.
-fn part_in(
-    trace: &[u8],
-    answers: &[u8],
-    kind: Kind,
-    body: &[u8],
-    overdrive: bool,
-    from: usize,
-    end: usize,
-) -> Part
-    ensures { result ≡ part_over trace.now answers.now kind body.now end
-        (reset_at overdrive) (part_so false false) from (end - from) }
-{
-    let mut state = LineState::at_reset(overdrive);
-    let mut part = empty_part();
-    let mut k = from;
-    while k < end {
-        part = part_at(trace, answers, body, end, k, state, part);
-        state = line_next(trace, answers, kind, body, k, state);
-        k += 1;
-    }
-    part
+    usize::from(is_slot_at(byte, overdrive))
 }
 
 // ---- the walk back from a copy
@@ -473,6 +255,7 @@ fn part_in(
 // With `overdrive` the device is known to be at overdrive after the event of this byte; this tells whether it is known
 // to have been so before. An event that a device at regular speed passes over leaves it at regular speed, so that one
 // that is at overdrive after it was so before. Of any other event nothing is taken as known.
+#[tactic(auto, unfolding(crate::specs::Loops::overdrive_before))]
 fn is_overdrive_before(byte: u8, overdrive: bool) -> bool
     ensures { result ≡ overdrive_before byte overdrive }
 {
@@ -484,11 +267,16 @@ fn is_overdrive_before(byte: u8, overdrive: bool) -> bool
 fn begins_part(byte: u8, overdrive: bool) -> bool
     ensures { result ≡ begins_part byte overdrive }
 {
-    (byte == RESET) | ((byte == OVERDRIVE_RESET) & overdrive)
+    match Event::from(byte) {
+        Event::Reset => true,
+        Event::OverdriveReset => overdrive,
+        _ => false,
+    }
 }
 
 // The part that begins with the reset at event j, and ends where the walk has come to, has these writes and reads. With
 // `overdrive` the device is known to have been at overdrive before the reset.
+#[tactic(auto, unfolding(crate::specs::Loops::back_by))]
 fn back_by(j: usize, back: Back, overdrive: bool, part: Part) -> Back
     ensures { result ≡ back_by j back overdrive part }
 {
@@ -500,378 +288,384 @@ fn back_by(j: usize, back: Back, overdrive: bool, part: Part) -> Back
     }
 }
 
-// The walk goes back over an event that begins no part.
-fn back_over(back: Back, overdrive: bool) -> Back
-    ensures { result ≡ back_over back overdrive }
-{
-    Back {
-        end: back.end,
-        shown: back.shown,
-        decided: back.decided,
-        overdrive,
+// ---- one device, followed over a recording
+
+impl<'a> Followed<'a> {
+    // This is the line state after event k.
+    #[tactic(auto, unfolding(crate::specs::Loops::line_next))]
+    fn line_next(self, k: usize, state: LineState) -> LineState
+        ensures { result ≡ line_next self.entry.recording.trace.now
+            self.entry.recording.answers.now self.entry.kind self.entry.body.now k state }
+    {
+        let event = Event::from(self.recording.event(k));
+        after_event(state, self.kind, self.body, event, self.recording.level(k))
     }
-}
 
-// The walk back looks at event j. A part begins at the speed of its reset.
-fn back_at(trace: &[u8], answers: &[u8], kind: Kind, body: &[u8], j: usize, back: Back) -> Back
-    requires { j < 18446744073709551615 }
-    ensures { result ≡ back_at trace.now answers.now kind body.now j back }
-{
-    let byte = bits::byte_at(trace, j);
-    let after = back.overdrive;
-    let before = is_overdrive_before(byte, after);
-    if begins_part(byte, after) {
-        let overdrive = byte == OVERDRIVE_RESET;
-        let part = part_in(trace, answers, kind, body, overdrive, j + 1, back.end);
-        back_by(j, back, before, part)
-    } else {
-        back_over(back, before)
+    // A read of the device, which is at overdrive or not, goes on in event k if this is a slot that it hears and that
+    // shows bit `at`, or if it passes over it.
+    #[tactic(auto, unfolding(crate::specs::Loops::goes_on_at))]
+    fn reads_on(self, overdrive: bool, k: usize, at: usize) -> bool
+        requires { at < 1024 }
+        ensures { result ≡ goes_on_at self.entry.recording.trace.now
+            self.entry.recording.answers.now self.entry.body.now overdrive k at }
+    {
+        let byte = self.recording.event(k);
+        if is_slot_at(byte, overdrive) {
+            return self.recording.level(k) == wanted_bit(self.body, at);
+        }
+        is_passed_at(byte, overdrive)
     }
-}
 
-fn looks_back(j: usize, back: Back) -> bool
-    ensures { result ≡ looks_back j back }
-{
-    (0 < j) & !back.decided
-}
-
-fn is_careful_by(back: Back) -> bool
-    ensures { result ≡ careful_by back }
-{
-    back.decided & back.shown
-}
-
-// A copy that a device accepts in event k, at overdrive or at regular speed, was read back: between its last write and
-// the copy a read showed all that is copied. Any one read is enough, so that the walk goes on to the last write.
-fn is_careful(
-    trace: &[u8],
-    answers: &[u8],
-    kind: Kind,
-    body: &[u8],
-    overdrive: bool,
-    k: usize,
-) -> bool
-    ensures { result ≡ careful_at trace.now answers.now kind body.now overdrive k }
-{
-    let mut back = Back {
-        end: k,
-        shown: false,
-        decided: false,
-        overdrive,
-    };
-    let mut j = k;
-    while looks_back(j, back) {
-        j -= 1;
-        back = back_at(trace, answers, kind, body, j, back);
+    // This tells whether the recorded answers from event k on, before event `end`, show as many bits as are due.
+    fn bits_shown(self, overdrive: bool, end: usize, k: usize, count: usize) -> bool
+        requires { count ≤ 1024 }
+        ensures { result ≡ shown_from self.entry.recording.trace.now
+            self.entry.recording.answers.now self.entry.body.now overdrive 0 count k (end - k) }
+    {
+        let mut at = 0;
+        for event in k..end {
+            if at == count {
+                return true;
+            }
+            if !self.reads_on(overdrive, event, at) {
+                return false;
+            }
+            at += bits_in(self.recording.event(event), overdrive);
+        }
+        at == count
     }
-    is_careful_by(back)
+
+    // A read whose command completed in the event before k showed all that is to be copied.
+    #[tactic(auto, unfolding(crate::specs::Loops::read_shown))]
+    fn read_shown(self, overdrive: bool, end: usize, k: usize) -> bool
+        ensures { result ≡ read_shown self.entry.recording.trace.now
+            self.entry.recording.answers.now self.entry.body.now overdrive end k }
+    {
+        let count = REGISTER_BITS + 8 * usize::from(wanted_bytes(self.body));
+        self.bits_shown(overdrive, end, k, count)
+    }
+
+    // A write leaves nothing of what was shown before it.
+    #[tactic(auto, unfolding(crate::specs::Loops::part_by))]
+    fn part_by(self, overdrive: bool, end: usize, k: usize, part: Part, mark: Mark) -> Part
+        requires { k < 18446744073709551615 }
+        ensures { result ≡ part_by self.entry.recording.trace.now
+            self.entry.recording.answers.now self.entry.body.now overdrive end k part mark }
+    {
+        match mark {
+            Mark::Unmarked => part,
+            Mark::Wrote => Part {
+                wrote: true,
+                shown: false,
+            },
+            Mark::Reads => {
+                let here = self.read_shown(overdrive, end, k + 1);
+                Part {
+                    shown: part.shown | here,
+                    ..part
+                }
+            }
+        }
+    }
+
+    // Event k, which finds the device in a line state, leaves this part.
+    #[tactic(auto, unfolding(crate::specs::Loops::part_at))]
+    fn part_at(self, end: usize, k: usize, state: LineState, part: Part) -> Part
+        requires { k < 18446744073709551615 }
+        ensures { result ≡ part_at self.entry.recording.trace.now
+            self.entry.recording.answers.now self.entry.body.now end k state part }
+    {
+        let mark = mark_of(state, self.recording.event(k), self.recording.level(k));
+        self.part_by(state.overdrive, end, k, part, mark)
+    }
+
+    // These are the writes and reads of the device from event `from` up to event `end`. The reset before them left the
+    // device at overdrive or at regular speed. Nothing that is marked depends on more of the body than the code.
+    fn part_in(self, overdrive: bool, from: usize, end: usize) -> Part
+        ensures { result ≡ part_over self.entry.recording.trace.now
+            self.entry.recording.answers.now self.entry.kind self.entry.body.now end
+            (reset_at overdrive) (part_so false false) from (end - from) }
+    {
+        let mut state = LineState::at_reset(overdrive);
+        let mut part = Part::default();
+        for k in from..end {
+            part = self.part_at(end, k, state, part);
+            state = self.line_next(k, state);
+        }
+        part
+    }
+
+    // The walk back looks at event j. A part begins at the speed of its reset.
+    #[tactic(auto, unfolding(crate::specs::Loops::back_at, crate::specs::Loops::back_over))]
+    fn back_at(self, j: usize, back: Back) -> Back
+        requires { j < 18446744073709551615 }
+        ensures { result ≡ back_at self.entry.recording.trace.now
+            self.entry.recording.answers.now self.entry.kind self.entry.body.now j back }
+    {
+        let byte = self.recording.event(j);
+        let before = is_overdrive_before(byte, back.overdrive);
+        if begins_part(byte, back.overdrive) {
+            let overdrive = matches!(Event::from(byte), Event::OverdriveReset);
+            let part = self.part_in(overdrive, j + 1, back.end);
+            back_by(j, back, before, part)
+        } else {
+            Back {
+                overdrive: before,
+                ..back
+            }
+        }
+    }
+
+    // A copy that the device accepts in the event at the reader's place, at overdrive or at regular speed, was read
+    // back: between its last write and the copy a read showed all that is copied. Any one read is enough, so that the
+    // walk goes on to the last write.
+    fn is_careful(self, overdrive: bool) -> bool
+        ensures { result ≡ careful_at self.entry.recording.trace.now
+            self.entry.recording.answers.now self.entry.kind self.entry.body.now overdrive
+            self.entry.recording.at }
+    {
+        let end = self.recording.at;
+        let mut back = Back {
+            end,
+            shown: false,
+            decided: false,
+            overdrive,
+        };
+        for j in (0..end).rev() {
+            back = self.back_at(j, back);
+            if back.decided {
+                return back.shown;
+            }
+        }
+        false
+    }
 }
 
 // ---- one event on all devices
 
 // A copy is accepted with the third byte of a pattern that is equal to the registers.
+// As it is: at and same come from a stage, and the value from a slot, so that they are no struct of their own.
+#[tactic(auto, unfolding(crate::specs::Loops::pattern_accepted))]
 fn is_accepted(at: u8, same: bool, value: u8, body: &[u8]) -> bool
     ensures { result ≡ pattern_accepted at same value body.now }
 {
-    if at < 2 {
-        return false;
-    }
-    same & (bits::byte_at(body, kind::TA1 + bits::wide(at)) == value)
+    2 <= at && sram::pattern_same(at, same, value, body)
 }
 
-// Device i, which is at overdrive or not, accepts a copy in event k that was not read back.
+// Device i, which is at overdrive or not, accepts a copy in the event at the reader's place that was not read back.
+#[tactic(auto, unfolding(crate::specs::Loops::careless_at))]
 fn is_careless(
-    trace: &[u8],
-    answers: &[u8],
+    recording: Recording,
     image: &[u8],
     i: usize,
     overdrive: bool,
-    k: usize,
     at: u8,
     same: bool,
     value: u8,
 ) -> bool
-    ensures { result ≡ careless_at trace.now answers.now image.now
-        (place_in image.now i) overdrive k at same value }
+    ensures { result ≡ careless_at recording.entry.trace.now recording.entry.answers.now image.now
+        (place_in image.now i) overdrive recording.entry.at at same value }
 {
     let place = bus::place_of(image, i);
-    let kind = place.kind;
-    let start = place.start;
-    let end = place.end;
-    if is_accepted(at, same, value, &image[start..end]) {
-        return !is_careful(trace, answers, kind, &image[start..end], overdrive, k);
-    }
-    false
+    let body = &image[place.start..place.end];
+    let followed = Followed {
+        recording,
+        kind: place.kind,
+        body,
+    };
+    is_accepted(at, same, value, body) && !followed.is_careful(overdrive)
 }
 
 fn is_write_or_copy(value: u8) -> bool
     ensures { result ≡ (eqb value 0x0F || eqb value 0x55) }
 {
-    (value == WRITE_SCRATCHPAD) | (value == COPY_SCRATCHPAD)
+    matches!(value, WRITE_SCRATCHPAD | COPY_SCRATCHPAD)
 }
 
-// In event k device i is looked at, which is in a line state before it. The rules look only at the last slot of a
-// transfer, which the device has to hear, but every device at the memory command counts, whatever its speed.
-fn seen_with(
-    trace: &[u8],
-    answers: &[u8],
-    image: &[u8],
-    k: usize,
-    i: usize,
-    state: LineState,
-    seen: Seen,
-) -> Seen
+// In the event at the reader's place device i is looked at, which is in a line state before it. The rules look only at
+// the last slot of a transfer, which the device has to hear, but every device at the memory command counts, whatever
+// its speed.
+#[tactic(auto, unfolding(crate::specs::Loops::seen_with, crate::specs::Loops::seen_by))]
+fn seen_with(recording: Recording, image: &[u8], i: usize, state: LineState, seen: Seen) -> Seen
     requires { seen.commands < 18446744073709551615 }
-    ensures { result ≡ seen_with trace.now answers.now image.now k i state seen }
+    ensures { result ≡ seen_with recording.entry.trace.now recording.entry.answers.now image.now
+        recording.entry.at i state seen }
 {
-    let transfer = state.transfer;
-    let stage = transfer.stage;
-    let last = is_slot_at(bits::byte_at(trace, k), state.overdrive) & !state.goes_on();
-    let value = bits::shift_in(transfer.register, level_at(answers, k));
-    match doing_of(stage) {
+    let k = recording.at;
+    let last = is_slot_at(recording.event(k), state.overdrive) & !state.goes_on();
+    let value = bits::shift_in(state.transfer.register, recording.level(k));
+    match doing_of(state.transfer.stage) {
         Doing::Command => Seen {
             commands: seen.commands + 1,
             completed: seen.completed | (last & is_write_or_copy(value)),
-            careless: seen.careless,
+            ..seen
         },
-        Doing::Address => seen,
-        Doing::Pattern { at, same } => {
-            if !last {
-                return seen;
-            }
-            let overdrive = state.overdrive;
-            let careless = is_careless(trace, answers, image, i, overdrive, k, at, same, value);
+        Doing::Pattern { at, same } if last => {
+            let careless = is_careless(recording, image, i, state.overdrive, at, same, value);
             Seen {
-                commands: seen.commands,
-                completed: seen.completed,
                 careless: seen.careless | careless,
+                ..seen
             }
         }
-        Doing::Other => seen,
+        _ => seen,
     }
 }
 
 // The rules look only at devices that are past the ROM stage. In most events most devices are not, and this test alone
 // passes over them, without a copy of what was seen so far.
+#[tactic(auto, unfolding(crate::specs::Loops::at_memory))]
 fn is_at_memory(state: LineState) -> bool
     ensures { result ≡ at_memory state.transfer.stage }
 {
-    let transfer = state.transfer;
-    let stage = transfer.stage;
-    match stage {
-        Stage::Rom(_) => false,
-        Stage::Memory(_) => true,
-    }
-}
-
-fn nothing_seen() -> Seen
-    ensures { result ≡ nothing_seen }
-{
-    Seen {
-        commands: 0,
-        completed: false,
-        careless: false,
-    }
+    matches!(state.transfer.stage, Stage::Memory(_))
 }
 
 // ---- the verdict so far
 
 // In event k, whose answer is as recorded, this is the first broken rule, if one is.
-fn verdict_here(seen: Seen, k: usize) -> Verdict
-    ensures { result ≡ verdict_here seen k }
+#[tactic(auto, unfolding(crate::specs::Judge::so_far, crate::specs::Loops::verdict_here))]
+fn verdict_here(seen: Seen, k: usize) -> Option<Broken>
+    ensures { so_far result ≡ verdict_here seen k }
 {
-    if (1 < seen.commands) & seen.completed {
-        return Verdict::Broken {
-            rule: Rule::Command,
-            event: k,
-        };
-    }
-    if seen.careless {
-        return Verdict::Broken {
-            rule: Rule::Copy,
-            event: k,
-        };
-    }
-    Verdict::Accepted
+    let rule = if (1 < seen.commands) & seen.completed {
+        Rule::Command
+    } else if seen.careless {
+        Rule::Copy
+    } else {
+        return None;
+    };
+    Some(Broken { rule, event: k })
 }
 
 // A rule that was broken at an event before k stays the verdict, unless the answer of event k breaks rule A, which goes
 // before the others.
-fn verdict_kept(rule: Rule, event: usize, agrees: bool, k: usize) -> Verdict
-    ensures { result ≡ verdict_kept rule event agrees k }
+#[tactic(auto, unfolding(crate::specs::Judge::so_far, crate::specs::Loops::verdict_kept))]
+fn verdict_kept(broken: Broken, agrees: bool, k: usize) -> Broken
+    ensures { so_far (Some result) ≡ verdict_kept broken.rule broken.event agrees k }
 {
-    match rule {
-        Rule::Answers => Verdict::Broken {
+    if agrees | (broken.rule == Rule::Answers) {
+        broken
+    } else {
+        Broken {
             rule: Rule::Answers,
-            event,
-        },
-        Rule::Command => {
-            if agrees {
-                Verdict::Broken {
-                    rule: Rule::Command,
-                    event,
-                }
-            } else {
-                Verdict::Broken {
-                    rule: Rule::Answers,
-                    event: k,
-                }
-            }
-        }
-        Rule::Copy => {
-            if agrees {
-                Verdict::Broken {
-                    rule: Rule::Copy,
-                    event,
-                }
-            } else {
-                Verdict::Broken {
-                    rule: Rule::Answers,
-                    event: k,
-                }
-            }
+            event: k,
         }
     }
 }
 
 // Event k, whose answer agrees with what was recorded or not, leaves this verdict.
-fn verdict_next(verdict: Verdict, agrees: bool, seen: Seen, k: usize) -> Verdict
-    ensures { result ≡ verdict_next verdict agrees seen k }
+#[tactic(auto, unfolding(crate::specs::Judge::so_far, crate::specs::Loops::verdict_next))]
+fn verdict_next(verdict: Option<Broken>, agrees: bool, seen: Seen, k: usize) -> Option<Broken>
+    ensures { so_far result ≡ verdict_next (so_far verdict) agrees seen k }
 {
     match verdict {
-        Verdict::Accepted => {
-            if agrees {
-                verdict_here(seen, k)
-            } else {
-                Verdict::Broken {
-                    rule: Rule::Answers,
-                    event: k,
-                }
-            }
-        }
-        Verdict::Broken { rule, event } => verdict_kept(rule, event, agrees, k),
-        Verdict::Refused(number) => Verdict::Refused(number),
+        Some(broken) => Some(verdict_kept(broken, agrees, k)),
+        None if agrees => verdict_here(seen, k),
+        None => Some(Broken {
+            rule: Rule::Answers,
+            event: k,
+        }),
     }
 }
 
 // So many of the n devices are still looked at. Once a rule is broken only a later A changes the verdict, and what is
 // seen of the devices has no part in that: a walk back at each further copy would be for nothing.
-fn still_looked_at(verdict: Verdict, n: usize) -> usize
-    ensures { result ≡ still_looked_at verdict n }
+#[tactic(auto, unfolding(crate::specs::Judge::so_far, crate::specs::Loops::still_looked_at))]
+fn still_looked_at(verdict: Option<Broken>, n: usize) -> usize
+    ensures { result ≡ still_looked_at (so_far verdict) n }
 {
-    match verdict {
-        Verdict::Accepted => n,
-        Verdict::Broken { .. } => 0,
-        Verdict::Refused(_) => 0,
-    }
-}
-
-fn accepted() -> Verdict
-    ensures { result ≡ Accepted }
-{
-    Verdict::Accepted
-}
-
-fn refused(number: u32) -> Verdict
-    ensures { result ≡ Refused number }
-{
-    Verdict::Refused(number)
+    if verdict.is_none() { n } else { 0 }
 }
 
 // ---- the numbers of a verdict
 
-fn rule_number(rule: Rule) -> u64
-    ensures { result ≡ rule_number rule }
-{
-    match rule {
-        Rule::Answers => 1,
-        Rule::Command => 2,
-        Rule::Copy => 3,
+// A C program is told the rules A, B and C as 1, 2 and 3.
+impl From<Rule> for u64 {
+    ghost from_gives = { λ rule number. number ≡ rule_number rule };
+
+    #[tactic(auto, unfolding(crate::specs::Judge::rule_number))]
+    fn from(rule: Rule) -> u64 {
+        match rule {
+            Rule::Answers => 1,
+            Rule::Command => 2,
+            Rule::Copy => 3,
+        }
     }
 }
 
 // The refusal's number is 0 where the recording is judged.
-pub fn refusal_of(verdict: Verdict) -> u32
-    ensures { result ≡ refusal_of verdict }
+// As it is: this and the next two give the C interface its numbers.
+#[tactic(auto, unfolding(crate::specs::Judge::told, crate::specs::Judge::so_far, crate::specs::Judge::refusal_of))]
+pub fn refusal_of(verdict: Result<Option<Broken>, Refusal>) -> u32
+    ensures { result ≡ refusal_of (told verdict) }
 {
     match verdict {
-        Verdict::Accepted => 0,
-        Verdict::Broken { rule: _, event: _ } => 0,
-        Verdict::Refused(number) => number,
+        Ok(_) => ACCEPTED,
+        Err(refusal) => u32::from(refusal),
     }
 }
 
 // The broken rule is 1 for A, 2 for B and 3 for C; it is 0 where none is broken.
-pub fn rule_of(verdict: Verdict) -> u64
-    ensures { result ≡ rule_of verdict }
+#[tactic(auto, unfolding(crate::specs::Judge::told, crate::specs::Judge::so_far, crate::specs::Judge::rule_of))]
+pub fn rule_of(verdict: Result<Option<Broken>, Refusal>) -> u64
+    ensures { result ≡ rule_of (told verdict) }
 {
     match verdict {
-        Verdict::Accepted => 0,
-        Verdict::Broken { rule, event: _ } => rule_number(rule),
-        Verdict::Refused(_) => 0,
+        Ok(Some(broken)) => u64::from(broken.rule),
+        _ => 0,
     }
 }
 
 // The event that breaks the rule is 0 where none is broken.
-pub fn event_of(verdict: Verdict) -> u64
-    ensures { result ≡ broken_at verdict }
+#[tactic(auto, unfolding(crate::specs::Judge::told, crate::specs::Judge::so_far, crate::specs::Judge::broken_at))]
+pub fn event_of(verdict: Result<Option<Broken>, Refusal>) -> u64
+    ensures { result ≡ broken_at (told verdict) }
 {
     match verdict {
-        Verdict::Accepted => 0,
-        Verdict::Broken { rule: _, event } => event as u64,
-        Verdict::Refused(_) => 0,
+        // As it is: a C program is told a u64, and no From goes from usize to it.
+        Ok(Some(broken)) => broken.event as u64,
+        _ => 0,
     }
 }
 
 // ---- why a recording is not judged
 
-// A recording is refused with the number of the first cause that applies, in the order 1 to 5, 11, 6, 7; the number is
-// 0 where none does. All are the run's but two of cause 7, the lengths of the answers and of the work space.
-fn refusal(image: &[u8], trace: &[u8], answers: usize, work: usize, lines: usize) -> u32
-    ensures { result ≡ judge_refusal image.now trace.now answers work lines }
+// A recording is refused for the first cause that applies. All are the run's but two of the last, the lengths of the
+// answers and of the work space.
+fn check(
+    image: &[u8],
+    trace: &[u8],
+    answers: usize,
+    work: usize,
+    lines: usize,
+) -> Result<(), Refusal>
+    ensures { told_number result ≡ judge_refusal image.now trace.now answers work lines }
 {
-    let number = bus::refusal(image, trace, trace.len(), lines);
-    if number != ACCEPTED {
-        return number;
-    }
+    bus::check(image, trace, trace.len(), lines)?;
     if answers != trace.len() {
-        return 7;
+        return Err(Refusal::NoRoom);
     }
     if work < image.len() {
-        return 7;
+        return Err(Refusal::NoRoom);
     }
-    ACCEPTED
+    Ok(())
 }
 
 // ---- all devices, and the trace
 
-// The image is laid over the start of the work space.
-fn lay(image: &[u8], work: &mut [u8])
-    ensures { work.new
-        ≡ laid_up_to (length image.now) image.now work.old }
-{
-    let mut k = 0;
-    while k < image.len() {
-        bits::put_byte(work, k, image[k]);
-        k += 1;
-    }
-}
-
-// Each of the first n devices is looked at in event k, before the event; one in the ROM stage adds nothing to what is
-// seen. Nothing changes.
-fn look(trace: &[u8], answers: &[u8], image: &[u8], lines: &[LineState], n: usize, k: usize) -> Seen
+// Each of the first n devices is looked at in the event at the reader's place, before the event; one in the ROM stage
+// adds nothing to what is seen. Nothing changes.
+// As it is: n stands beside the line states, as `bus::step` has it, whose definition keeps those from n on.
+fn look(recording: Recording, image: &[u8], lines: &[LineState], n: usize) -> Seen
     requires { n ≤ length lines.now }
-    ensures { result ≡ seen_up_to trace.now answers.now image.now
-        lines.now k n }
+    ensures { result ≡ seen_up_to recording.entry.trace.now recording.entry.answers.now image.now
+        lines.now recording.entry.at n }
 {
-    let mut seen = nothing_seen();
-    let mut i: usize = 0;
-    while i < n {
-        let state = lines[i];
-        if is_at_memory(state) {
-            seen = seen_with(trace, answers, image, k, i, state, seen);
+    let mut seen = Seen::default();
+    for (i, state) in lines[..n].iter().enumerate() {
+        if is_at_memory(*state) {
+            seen = seen_with(recording, image, i, *state, seen);
         }
-        i = i + 1;
     }
     seen
 }
@@ -879,53 +673,52 @@ fn look(trace: &[u8], answers: &[u8], image: &[u8], lines: &[LineState], n: usiz
 // The reader of a recording goes from event to event. Each is looked at while no rule is broken, then given to the n
 // devices in the work space; whether its level agrees with the recorded answer, and what was seen, leave the next
 // verdict.
+// As it is: n stands beside the line states, as `bus::step` has it, whose definition keeps those from n on.
 fn judge_events(
     trace: &[u8],
     answers: &[u8],
     work: &mut [u8],
     lines: &mut [LineState],
     n: usize,
-) -> Verdict
+) -> Option<Broken>
     requires { n ≤ length lines.old }
-    ensures { judge_state result work.new lines.new
+    ensures { judge_state (so_far result) work.new lines.new
         ≡ judge_events_up_to trace.now answers.now n (length trace.now)
         (judge_state Accepted work.old lines.old) }
 {
-    let mut verdict = accepted();
-    let mut recording = recording::new(trace, answers);
+    let mut verdict = None;
+    // As it is: tests/forms holds that the place of a reader that moves tells the turns, so that this is no `for`.
+    let mut recording = Recording::new(trace, answers);
     while recording.at < trace.len() {
         let k = recording.at;
-        let byte = bits::byte_at(trace, k);
+        let byte = recording.event(k);
         let looked = still_looked_at(verdict, n);
-        let seen = look(trace, answers, work, lines, looked, k);
+        let seen = look(recording, work, lines, looked);
         let result = bus::step(work, lines, n, byte);
-        let agrees = recording::agrees(recording, result.level);
+        let agrees = recording.agrees(result.level);
         verdict = verdict_next(verdict, agrees, seen, k);
-        recording = recording::next(recording);
+        recording = recording.next();
     }
     verdict
 }
 
 // A recording that is refused changes nothing; in any other the bench runs the whole trace in the work space, whatever
 // the verdict is.
+// As it is: image, trace, answers and work space are arguments of their own, as the C interface lends each by itself.
 pub fn judge(
     image: &[u8],
     trace: &[u8],
     answers: &[u8],
     work: &mut [u8],
     lines: &mut [LineState],
-) -> Verdict
+) -> Result<Option<Broken>, Refusal>
     ensures { JudgeLeaves
         (judge_of image.now trace.now answers.now work.old
-        lines.old) result work.new lines.new }
+        lines.old) (told result) work.new lines.new }
 {
-    let number = refusal(image, trace, answers.len(), work.len(), lines.len());
-    let mut verdict = refused(number);
-    if number == ACCEPTED {
-        let n = bus::device_count(image);
-        lay(image, work);
-        bus::wait_all(lines, n);
-        verdict = judge_events(trace, answers, work, lines, n);
-    }
-    verdict
+    check(image, trace, answers.len(), work.len(), lines.len())?;
+    let n = bus::device_count(image);
+    work[..image.len()].copy_from_slice(image);
+    bus::wait_all(lines, n);
+    Ok(judge_events(trace, answers, work, lines, n))
 }

@@ -2,20 +2,25 @@
 // with `troughiron` a step of the bus would have two callers, would not be inlined, and the run would be slower.
 #![tactic(auto)]
 
+ghost use Rattle.judge.specs.Judge.{told};
 ghost use Rattle.judge_call.specs.Host.{OwnJudgeLeaves, HostJudgeLeaves, host_judge};
 
 use device::LineState;
-use image::ACCEPTED;
-use judge::Verdict;
+use image::Refusal;
+use judge::Broken;
 
 // The judge has 64 line states of its own, as an image has at most 64 devices.
-fn judge_own(image: &[u8], trace: &[u8], answers: &[u8], work: &mut [u8]) -> Verdict
+fn judge_own(
+    image: &[u8],
+    trace: &[u8],
+    answers: &[u8],
+    work: &mut [u8],
+) -> Result<Option<Broken>, Refusal>
     ensures { OwnJudgeLeaves
-        (host_judge image.now trace.now answers.now work.old) result
+        (host_judge image.now trace.now answers.now work.old) (told result)
         work.new }
 {
-    let waiting = LineState::waiting();
-    let mut lines = [waiting; 64];
+    let mut lines = [LineState::waiting(); 64];
     judge::judge(image, trace, answers, work, &mut lines)
 }
 
@@ -34,10 +39,9 @@ pub extern "C" fn troughiron_judge(
         rule.old event.old result work.new rule.new event.new }
 {
     let verdict = judge_own(image, trace, answers, work);
-    let refused = judge::refusal_of(verdict);
-    if refused == ACCEPTED {
+    if verdict.is_ok() {
         *rule = judge::rule_of(verdict);
         *event = judge::event_of(verdict);
     }
-    refused
+    judge::refusal_of(verdict)
 }

@@ -199,10 +199,11 @@ pub fn at_memory_command() -> Transfer
 }
 
 // While a transfer of `slots` slots is under way, at least one slot is left of it, and no more than it has.
+#[tactic(auto, unfolding(crate::specs::Transfers::under_way))]
 pub fn under_way(slots: u8, left: u8) -> bool
     ensures { result ≡ under_way slots left }
 {
-    (0 < left) & (left <= slots)
+    (1..=slots).contains(&left)
 }
 
 // ---- a slot of a transfer
@@ -228,5 +229,5 @@ pub fn goes_on(left: u8) -> bool
 pub fn one_less(left: u8) -> u8
     ensures { result ≡ left - 1 }
 {
-    if 0 < left { left - 1 } else { 0 }
+    left.saturating_sub(1)
 }

@@ -1,5 +1,6 @@
 -- The stage and the passes of a master that a fresh one came to say how many levels it was given: 201 in a pass. So its numbers are in
 -- range, and the room that a drive asks is enough. Assumes nothing.
+use Rattle.std.specs.Prelude.{Option, None, Some}
 use Prim.Native.Nat.{ℕ, suc, ◌+◌, ◌-◌, ◌*◌, ◌≤◌, ◌<◌}
 use mathlib.Core.Path.{◌≡◌, refl, sym, subst}
 use mathlib.Core.Logic.{◌⊎◌, inl, inr}
@@ -14,8 +15,6 @@ use Rattle.bits.specs.Crc.{registration_check}
 use Rattle.master.specs.declared.End.TheVariants.{Done, NoDevice, WrongCrc, Unexplored}
 use Rattle.master.specs.declared.Stage.{Stage}
 use Rattle.master.specs.declared.Stage.TheVariants.{Fresh, Reset, Command, FirstRead, SecondRead, Direction, Ended}
-use Rattle.master.specs.declared.Discrepancy.{Discrepancy}
-use Rattle.master.specs.declared.Discrepancy.TheVariants.{None, At}
 use Rattle.master.specs.declared.Master.{Master}
 use Rattle.master.specs.Master.{command_bits, code_bits, most_passes, event, end, end_number, answer_value, answer_of, master_answer, fresh_master, master_at_stage, stage_in_range, master_in_range, master_after_reset, master_after_command, send_direction, master_after_reads, pass_completed, stage_after_pass, pass_end, master_after_direction, step_by_stage, master_after_level}
 use Rattle.master.specs.Drive.{started_master, pass_events, code_completed}
@@ -79,7 +78,7 @@ choose-stage : (b : Bool) (s t : Stage) (passes i : ℕ) → (b ≡ true → Giv
 choose-stage true s t passes i f g = f refl
 choose-stage false s t passes i f g = g refl
 
-send-on : {m : Master} {i : ℕ} (at : ℕ) (bit : Bool) (opened : Discrepancy) → Reached m i → Given (Direction at bit) m.passes (suc i)
+send-on : {m : Master} {i : ℕ} (at : ℕ) (bit : Bool) (opened : Option ℕ) → Reached m i → Given (Direction at bit) m.passes (suc i)
     → Reached (send_direction m at bit opened) (suc i)
 unfolding send_direction put_bit
 send-on {m} at bit opened r g = record { given = g; code-size = simp length-set r.code-size; previous-size = r.previous-size }
@@ -92,10 +91,10 @@ reads_on {m} at true false r g = send-on at true m.opened r (g.0, g.1, omega ari
 reads_on at true true r g = in-stage (Ended NoDevice) r (omega arith, omega arith, λ q. absurd (not-absent q))
 reads_on {m} at false false r g = send-on at _ _ r (g.0, g.1, omega arith)
 
-after-pass-on : (o : Discrepancy) (passes i : ℕ) → passes ≤ most_passes → i ≡ pass_events * passes → Given (stage_after_pass o passes) passes i
+after-pass-on : (o : Option ℕ) (passes i : ℕ) → passes ≤ most_passes → i ≡ pass_events * passes → Given (stage_after_pass o passes) passes i
 unfolding stage_after_pass
 after-pass-on None passes i few e = (few, omega arith, λ q. absurd (not_done q))
-after-pass-on (At bit) passes i few e =
+after-pass-on (Some bit) passes i few e =
     choose-stage (ltb passes most_passes) Reset (Ended Unexplored) passes i (λ t. (ltb-true passes most_passes t, e))
     (λ t. let all = ltb-false passes most_passes t in (few, omega arith, λ q. omega arith))
 

@@ -1,4 +1,5 @@
 -- A pass's code is its directions: the bit that is sent is the code's bit from then on, the others stay, and bytes stay bytes. Assumes nothing.
+use Rattle.std.specs.Prelude.{Option}
 use Prim.Native.Nat.{ℕ, zero, suc, ◌+◌, ◌-◌, ◌*◌, ◌/◌, ◌%◌, ◌^◌, ◌≤◌, ◌<◌}
 use mathlib.Core.Path.{◌≡◌, refl, sym, ap, ◌∙◌}
 use mathlib.Core.Bool.{Bool, true, false, cond}
@@ -10,7 +11,6 @@ use lib.ListN.{length, get_or, set}
 use lib.Seq.{get_or-set_same, get_or-set_other}
 use lib.Dec.{eqb}
 use borrow.Author.Tests.{eqb-true, eqb-false, eq-eqb, ne_eqb, lt-leb}
-use Rattle.master.specs.declared.Discrepancy.{Discrepancy}
 use Rattle.master.specs.declared.Master.{Master}
 use Rattle.master.specs.Master.{code_bits, send_direction}
 use Rattle.bits.proofs.Laws.{clear_room}
@@ -158,7 +158,7 @@ module _ (s : List ℕ) (i : ℕ) (level : Bool) where
 
 -- ---- a pass
 
-module _ (m : Master) (at : ℕ) (bit : Bool) (opened : Discrepancy) (size : length m.code ≡ 8) (low : at < code_bits) where
+module _ (m : Master) (at : ℕ) (bit : Bool) (opened : Option ℕ) (size : length m.code ≡ 8) (low : at < code_bits) where
   pub directed-bit : bit_at (send_direction m at bit opened).code at ≡ bit
   unfolding send_direction
   directed-bit = put_same m.code at bit (omega arith)

@@ -1,6 +1,7 @@
 -- Document 01, 'The searching master' and refusals 8 to 10, is stated here: a step that is given one level and returns
 -- the next event. A level is a Bool, and false is 0. The last open discrepancy is document 01's last open fork.
 use Rattle.std.specs.Prelude.{ℕ, ◌+◌, ◌-◌, Bool, true, false, not, cond, ◌&&◌, List, replicate, eqb, ltb}
+use Rattle.std.specs.Prelude.{Option, Some, None}
 use Rattle.bits.specs.Bit.{bit_of, bit_at, put_bit}
 use Rattle.bits.specs.Crc.{registration_check}
 use Rattle.master.specs.declared.End.{End}
@@ -9,8 +10,6 @@ use Rattle.master.specs.declared.Answer.{Answer}
 use Rattle.master.specs.declared.Stage.{Stage}
 use Rattle.master.specs.declared.Stage.TheVariants.{Fresh, Reset, Command, FirstRead, SecondRead, Direction}
 use Rattle.master.specs.declared.Stage.TheVariants.{Ended}
-use Rattle.master.specs.declared.Discrepancy.{Discrepancy}
-use Rattle.master.specs.declared.Discrepancy.TheVariants.{None, At}
 use Rattle.master.specs.declared.Master.{Master}
 use Rattle.master.specs.declared.Step.{Step}
 
@@ -115,12 +114,12 @@ master_after_command m at = master_at_stage m (cond (ltb at (command_bits - 1)) 
 
 -- Where both read slots read 0, the direction is the previous code's bit before the last open discrepancy, 1 at it, and
 -- 0 after it or where none is open.
-unfoldable pub at_discrepancy : Discrepancy → List ℕ → ℕ → Bool
+unfoldable pub at_discrepancy : Option ℕ → List ℕ → ℕ → Bool
 at_discrepancy None previous at = false
-at_discrepancy (At last) previous at = cond (ltb at last) (bit_at previous at) (eqb at last)
+at_discrepancy (Some last) previous at = cond (ltb at last) (bit_at previous at) (eqb at last)
 
 -- A direction is sent, and becomes the bit of this pass's code.
-unfoldable pub send_direction : Master → ℕ → Bool → Discrepancy → Master
+unfoldable pub send_direction : Master → ℕ → Bool → Option ℕ → Master
 send_direction m at bit opened =
     record {
       stage = Direction at bit;
@@ -132,9 +131,9 @@ send_direction m at bit opened =
     }
 
 -- Where both read slots read 0 and 0 is sent, this discrepancy is open, and the last of the pass so far.
-unfoldable pub open_after : Bool → ℕ → Discrepancy → Discrepancy
+unfoldable pub open_after : Bool → ℕ → Option ℕ → Option ℕ
 open_after true at opened = opened
-open_after false at opened = At at
+open_after false at opened = Some at
 
 -- The levels 0,1 of the two read slots give direction 0, and 1,0 give 1; 1,1 ends the search with 8.
 unfoldable pub master_after_reads : Master → ℕ → Bool → Bool → Master
@@ -150,9 +149,9 @@ pass_completed m s =
     record { stage = s; passes = m.passes + 1; code = no_bits; opened = None; previous = m.code; last = m.opened }
 
 -- A search ends where no discrepancy is open, and ends with 10 after pass 64; else the next pass begins with a reset.
-unfoldable pub stage_after_pass : Discrepancy → ℕ → Stage
+unfoldable pub stage_after_pass : Option ℕ → ℕ → Stage
 stage_after_pass None passes = Ended Done
-stage_after_pass (At bit) passes = cond (ltb passes most_passes) Reset (Ended Unexplored)
+stage_after_pass (Some bit) passes = cond (ltb passes most_passes) Reset (Ended Unexplored)
 
 -- A pass whose 64 bits fail the CRC ends the search with 9, and these are not among the completed codes.
 unfoldable pub pass_end : Master → Master

@@ -9,6 +9,10 @@ unfoldable pub agrees_at : List ℕ → List ℕ → ℕ → Bool → Bool
 agrees_at trace answers k level =
     ltb k (length trace) && (ltb k (length answers) && eqb (get_or answers k 0) (level_byte level))
 
+-- The recorded answer of event k as a level.
+unfoldable pub level_at : List ℕ → ℕ → Bool
+level_at answers k = eqb (get_or answers k 0) 1
+
 -- The place after event k of a trace with so many events. At its end the place stays.
 unfoldable pub next_at : ℕ → ℕ → ℕ
 next_at events k = cond (ltb k events) (suc k) k

@@ -1,65 +1,64 @@
 // This crate is the reader of a recorded session: a struct that holds the trace that a program sent, the answers that
 // it recorded, and a place in both. A reader begins before the first event, is asked at each event, and moves on to the
-// next. The functions over the struct are thin; the work is done by functions over plain slices and numbers.
+// next.
 #![tactic(auto)]
 
-ghost use Rattle.std.specs.Prelude.{◌≡◌, length};
-ghost use Rattle.recording.specs.Recorded.{agrees_at, next_at};
+ghost use Rattle.std.specs.Prelude.{◌≡◌, length, get_or};
+ghost use Rattle.recording.specs.Recorded.{agrees_at, next_at, level_at};
 
 #[derive(Clone, Copy)]
-pub struct Recording<'a, 'b> {
+pub struct Recording<'a> {
     trace: &'a [u8],
-    answers: &'b [u8],
+    answers: &'a [u8],
     // Events are counted from 0.
     pub at: usize,
 }
 
-fn agrees_at(trace: &[u8], answers: &[u8], k: usize, level: bool) -> bool
-    ensures { result ≡ agrees_at trace.now answers.now k level }
-{
-    if k < trace.len() {
-        if k < answers.len() {
-            return answers[k] == level as u8;
+impl<'a> Recording<'a> {
+    // The reader stands before the first event.
+    pub fn new(trace: &'a [u8], answers: &'a [u8]) -> Self
+        ensures { (result.trace ≡ trace.entry) × (result.answers ≡ answers.entry) × (result.at ≡ 0) }
+    {
+        Recording {
+            trace,
+            answers,
+            at: 0,
         }
     }
-    false
-}
 
-// At the end of the trace the reader stays.
-fn next_at(events: usize, k: usize) -> usize
-    ensures { result ≡ next_at events k }
-{
-    if k < events { k + 1 } else { k }
-}
-
-// The reader stands before the first event.
-pub fn new<'a, 'b>(trace: &'a [u8], answers: &'b [u8]) -> Recording<'a, 'b>
-    ensures { (result.trace ≡ trace.entry) × (result.answers ≡ answers.entry) × (result.at ≡ 0) }
-{
-    Recording {
-        trace,
-        answers,
-        at: 0,
+    // This is the byte of event k; past the end of the trace it is 0.
+    pub fn event(self, k: usize) -> u8
+        ensures { result ≡ get_or self.entry.trace.now k 0 }
+    {
+        bits::byte_at(self.trace, k)
     }
-}
 
-// This tells whether the answer that was recorded for the event at the reader's place is this level.
-pub fn agrees<'a, 'b>(recording: Recording<'a, 'b>, level: bool) -> bool
-    ensures { result ≡ agrees_at recording.entry.trace.now recording.entry.answers.now
-        recording.entry.at level }
-{
-    agrees_at(recording.trace, recording.answers, recording.at, level)
-}
+    // The recorded answer of event k counts as the level of the line. Where it is not, rule A is broken, and no other
+    // rule counts.
+    pub fn level(self, k: usize) -> bool
+        ensures { result ≡ level_at self.entry.answers.now k }
+    {
+        bits::byte_at(self.answers, k) == 1
+    }
 
-// The reader moves past the event at its place.
-pub fn next<'a, 'b>(recording: Recording<'a, 'b>) -> Recording<'a, 'b>
-    ensures { (result.trace ≡ recording.entry.trace) × (result.answers ≡ recording.entry.answers)
-        × (result.at ≡ next_at (length recording.entry.trace.now) recording.entry.at) }
-{
-    let at = next_at(recording.trace.len(), recording.at);
-    Recording {
-        trace: recording.trace,
-        answers: recording.answers,
-        at,
+    // This tells whether the answer that was recorded for the event at the reader's place is this level.
+    pub fn agrees(self, level: bool) -> bool
+        ensures { result ≡ agrees_at self.entry.trace.now self.entry.answers.now self.entry.at level }
+    {
+        let k = self.at;
+        k < self.trace.len() && k < self.answers.len() && self.answers[k] == u8::from(level)
+    }
+
+    // The reader moves past the event at its place, and at the end of the trace it stays.
+    pub fn next(self) -> Self
+        ensures { (result.trace ≡ self.entry.trace) × (result.answers ≡ self.entry.answers)
+            × (result.at ≡ next_at (length self.entry.trace.now) self.entry.at) }
+    {
+        let at = if self.at < self.trace.len() {
+            self.at + 1
+        } else {
+            self.at
+        };
+        Recording { at, ..self }
     }
 }

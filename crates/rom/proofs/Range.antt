@@ -102,7 +102,6 @@ pub next-speed : (r : RomStage) (kind : Kind) (overdrive : Bool) (register left 
     → rom_range r overdrive register left ≡ true → speed_known kind overdrive ≡ true
     → speed_known kind (rom_speed r kind overdrive value body level) ≡ true
 unfolding rom_speed command_speed rom_range speed_known
-next-speed Waiting kind overdrive register left value body level h k = k
 next-speed Command kind overdrive register left value body level h k =
     has (has_overdrive kind) (eqb value 0x3C) (eqb value 0x69) overdrive k
   where
@@ -113,9 +112,6 @@ next-speed Command kind overdrive register left value body level h k =
     has false true b y k = k
     has false false true y k = k
     has false false false y k = k
-next-speed (Read byte) kind overdrive register left value body level h k = k
-next-speed (Match at) kind overdrive register left value body level h k = k
-next-speed (Search at) kind overdrive register left value body level h k = k
 next-speed (OverdriveMatch at before) kind overdrive register left value body level h k =
     any (has_overdrive kind) overdrive (cond (beq (bit_at body at) level) overdrive before)
     (both overdrive (ltb at 64 && under_way 1 left) h).0 k
@@ -125,3 +121,4 @@ next-speed (OverdriveMatch at before) kind overdrive register left value body le
     any true x false e k = refl
     any false true y e k = absurd (true≢false (sym k))
     any false false y e k = absurd (true≢false (sym e))
+next-speed _ kind overdrive register left value body level h k = k

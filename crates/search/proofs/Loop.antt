@@ -5,6 +5,7 @@ use Prim.Native.Nat.{ℕ, zero, suc, ◌+◌, ◌*◌, ◌<◌, ◌≤◌}
 use mathlib.Core.Path.{◌≡◌, refl, sym, ap, subst, ◌∙◌}
 use mathlib.Core.Bool.{Bool, true, false, not, true≢false}
 use mathlib.Core.List.{List, [], ◌∷◌, ◌++◌}
+use native.Mathlib.Numerals.{add-one}
 use native.Mathlib.Omega.{arith}
 use lib.ListN.{length, take, drop, set, replicate, length-append, length-set, length-drop, take-append-drop}
 use lib.Seq.{sets, sets-eq, length-sets, take_at, drop_at, drop-append-add, drop-drop}
@@ -32,9 +33,18 @@ use Rattle.search_laws.proofs.Driven.{driven-stops, driven-devices}
 use Rattle.search_laws.proofs.Demand.{searched}
 use Rattle.search_laws.proofs.Going as G
 use Rattle.search_laws.proofs.Going.{Going, going_start, going_end, going-room, going_on, lines_after, turned-in, level_in-is}
-use Rattle.search.specs.Loops.{has_event, event_in, Ready}
+use Rattle.search.specs.Loops.{Ready}
 
 -- ---- the state
+
+-- whether an answer is an event, and which; of the end, where nothing is sent, any number stands for it
+unfoldable pub has_event : Answer → Bool
+has_event (Answer.Event e) = true
+has_event (Answer.End e) = false
+
+unfoldable pub event_in : Answer → ℕ
+event_in (Answer.Event e) = e
+event_in (Answer.End e) = 0
 
 pub record State : Type 0 where
   pub step : Step
@@ -290,3 +300,84 @@ module _ (image codes₀ trace₀ : List ℕ) (lines₀ : List LineState) (ready
 
   pub fits : N ≤ length trace₀
   fits = let r = ready.trace-room in let y = demand.events in omega arith
+
+-- ---- a turn of the loop
+
+-- what the loop holds when turn k begins, beside what it was lent
+pub record Begun (image codes₀ trace₀ : List ℕ) (lines₀ : List LineState) (k : ℕ) (master : Master) (level : ℕ) (codes trace : List ℕ) (lines : List LineState) : Type 0 where
+  pub few : k ≤ length (search_of image).trace
+  pub master-is : master ≡ master_at image (state (step_of fresh_master 0) lines₀ trace₀ codes₀) k
+  pub level-is : level ≡ level_at image (state (step_of fresh_master 0) lines₀ trace₀ codes₀) k
+  pub codes-are : codes ≡ codes_at image (state (step_of fresh_master 0) lines₀ trace₀ codes₀) k
+  pub trace-is : trace ≡ (exchanges image k (state (step_of fresh_master 0) lines₀ trace₀ codes₀)).trace
+  pub lines-are : lines ≡ (exchanges image k (state (step_of fresh_master 0) lines₀ trace₀ codes₀)).lines
+
+pub begun-start : (image codes trace : List ℕ) (lines : List LineState) → Begun image codes trace lines 0 fresh_master 0 codes trace lines
+unfolding exchanges
+begun-start image codes trace lines =
+    record { few = omega arith; master-is = refl; level-is = refl; codes-are = refl; trace-is = refl; lines-are = refl }
+
+no-event : (a : Answer) → ((e : ℕ) → a ≡ Answer.Event e → ⊥) → has_event a ≡ false
+unfolding has_event
+no-event (Answer.Event e) h = absurd (h e refl)
+no-event (Answer.End x) h = refl
+
+-- the turn takes the step of exchange k, and stores the code that it completed
+module _ {image codes₀ trace₀ : List ℕ} {lines₀ : List LineState} (ready : Ready image codes₀ trace₀ lines₀)
+    {k level : ℕ} {master : Master} {codes trace : List ℕ} {lines : List LineState} (b : Begun image codes₀ trace₀ lines₀ k master level codes trace lines)
+    {step : Step} (taken : step ≡ step_of master level)
+    {stored : List ℕ} (kept : stored ≡ sets codes (code_bytes * master.passes) (code_completed master.passes (next_master master level))) where
+  abbrev s : State
+  s = state (step_of fresh_master 0) lines₀ trace₀ codes₀
+
+  turn-step : step ≡ (exchanges image k s).step
+  turn-step = taken ∙ (λ j. step_of (b.master-is j) (b.level-is j)) ∙ step_is image s refl k
+
+  turn-codes : stored ≡ (exchanges image k s).codes
+  turn-codes =
+      kept ∙ (λ j. sets (b.codes-are j) (code_bytes * (b.master-is j).passes) (code_completed (b.master-is j).passes (next_master (b.master-is j) (b.level-is j))))
+      ∙ codes-are image s k
+
+  turn-answer : step.answer ≡ (exchanges image k s).step.answer
+  turn-answer = ap (λ (t : Step). t.answer) turn-step
+
+  -- an event is another exchange
+  pub turn-more : {e : ℕ} → step.answer ≡ Answer.Event e → k < length (search_of image).trace
+  unfolding has_event
+  turn-more a = goes image codes₀ trace₀ lines₀ ready k b.few (ap has_event (sym turn-answer ∙ a))
+
+  pub turn-fits : {e : ℕ} → step.answer ≡ Answer.Event e → k < length trace₀
+  turn-fits a = let m = turn-more a in let f = fits image codes₀ trace₀ lines₀ ready in omega arith
+
+  -- the devices answer it, and the trace has it
+  pub turn-next : {e n : ℕ} {level' : ℕ} {trace' : List ℕ} {lines' : List LineState} → step.answer ≡ Answer.Event e → n ≡ count_of image
+      → trace' ≡ set trace k e
+      → lines' ≡ turn_states_of image lines n e (level_on lines n e)
+      → level' ≡ level_byte (level_on lines n e)
+      → Begun image codes₀ trace₀ lines₀ (k + 1) step.next level' stored trace' lines'
+  unfolding exchanges event_in
+  turn-next {e} {n} a served written turned answered =
+      let sends : e ≡ sent_in image (exchanges image k s) = ap event_in (sym a ∙ turn-answer) in
+      let more = turn-more a in
+      record {
+        few = omega arith;
+        master-is = rw add-one (ap (λ (t : Step). t.next) turn-step);
+        level-is = rw add-one (answered ∙ (λ j. level_byte (level_on (b.lines-are j) (served j) (sends j))));
+        codes-are = rw add-one turn-codes;
+        trace-is = rw add-one (written ∙ (λ j. set (b.trace-is j) k (sends j)));
+        lines-are = rw add-one (turned ∙ (λ j. turn_states_of image (b.lines-are j) (served j) (sends j) (level_on (b.lines-are j) (served j) (sends j))));
+      }
+
+  -- at the end all exchanges are made
+  pub turn-ends : ((e : ℕ) → step.answer ≡ Answer.Event e → ⊥)
+      → (k ≡ length (search_of image).trace)
+      × (stored ≡ written_over (search_of image).codes codes₀)
+      × (trace ≡ written_over (search_of image).trace trace₀)
+      × (lines ≡ states_of (search_of image).devices ++ drop (count_of image) lines₀)
+  turn-ends h =
+      let all = ends image codes₀ trace₀ lines₀ ready k b.few (ap has_event (sym turn-answer) ∙ no-event step.answer h) in (
+        all,
+        turn-codes ∙ ap (λ (i : ℕ). (exchanges image i s).codes) all ∙ codes-done image codes₀ trace₀ lines₀ ready,
+        b.trace-is ∙ ap (λ (i : ℕ). (exchanges image i s).trace) all ∙ trace-done image codes₀ trace₀ lines₀ ready,
+        b.lines-are ∙ ap (λ (i : ℕ). (exchanges image i s).lines) all ∙ lines-done image codes₀ trace₀ lines₀ ready,
+      )

@@ -1,13 +1,14 @@
 -- What the code of `search` leaves is what its contract says. Assumes nothing.
 use Prim.Native.Nat.{ℕ, zero, suc, ◌*◌, ◌≤◌}
 use mathlib.Core.Path.{◌≡◌, refl, sym, ap, subst, ◌∙◌}
-use mathlib.Core.Bool.{Bool, true, false, not, cond, ◌||◌, true≢false}
+use mathlib.Core.Bool.{Bool, true, false, cond, ◌||◌, true≢false, not}
 use mathlib.Core.List.{List, [], ◌∷◌, ◌++◌}
 use native.Mathlib.Omega.{arith}
 use lib.ListN.{length, take, drop, replicate, length-replicate}
 use lib.Seq.{take_at, drop_at}
 use lib.Dec.{T, eqb, ltb}
 use borrow.Author.Tests.{ltb-false}
+use Rattle.image.proofs.Counted.{some_refusal}
 use Rattle.image.specs.Image.{count_of}
 use Rattle.image.specs.Refusal.{cause, image_causes, image_refusal}
 use Rattle.device.specs.declared.LineState.{LineState}
@@ -20,11 +21,13 @@ use Rattle.bus.proofs.Laws.{none_first, filled-length, fewer-first}
 use Rattle.bus.proofs.Shown.{filled_is}
 use Rattle.search_laws.specs.Search.{search_of}
 use Rattle.search_laws.specs.Searched.{Searched, events_for}
-use Rattle.search_laws.specs.Words.{Bytes}
+use Rattle.search_laws.specs.Words.{Bytes, passes_in, resets_in, slots_in}
 use Rattle.search_laws.proofs.Demand.{searched}
-use Rattle.search.specs.declared.Found.{Found}
+use Rattle.std.specs.Prelude.{Err}
+use Rattle.image.specs.declared.Refusal.{Refusal}
+use Rattle.image.specs.Refusal.{refusal_number}
 use Rattle.search.specs.Refusal.{no_search_room, search_causes, search_refusal}
-use Rattle.search.specs.Found.{found_in, SearchOutcome, search_outcome, SearchLeaves, left_by_search, search_outcome_at, search_outcome_of}
+use Rattle.search.specs.Found.{found_in, search_told, SearchTold, SearchOutcome, search_outcome, SearchLeaves, left_by_search, search_outcome_at, search_outcome_of}
 use Rattle.search.specs.Loops.{Ready}
 use Rattle.search.proofs.Counts.{room-decides}
 
@@ -84,28 +87,33 @@ module _ (image codes trace : List ℕ) (lines : List LineState) where
   -- ---- what is left
 
   pub shown : number ≡ 0
-      → search_outcome (found_in number (take (length (search_of image).trace) (written_over (search_of image).trace trace))) (written_over (search_of image).codes codes) (written_over (search_of image).trace trace) (states_of (search_of image).devices ++ drop n begun)
+      → search_outcome (found_in 0 (take (length (search_of image).trace) (written_over (search_of image).trace trace))) (written_over (search_of image).codes codes) (written_over (search_of image).trace trace) (states_of (search_of image).devices ++ drop n begun)
       ≡ search_outcome_of image codes trace lines
   unfolding search_outcome_of search_outcome_at left_by_search
   shown e =
       let S = search_of image in
       let rest : drop n begun ≡ drop n lines = ap (drop n) (begun-is e) ∙ drop_at (replicate n waiting_state) (drop n lines) n (length-replicate n waiting_state) in
-      ap (λ (m : ℕ). search_outcome (found_in m (take (length S.trace) (written_over S.trace trace))) (written_over S.codes codes) (written_over S.trace trace) (states_of S.devices ++ drop n begun)) e
-      ∙ ap (λ (t : List ℕ). search_outcome (found_in 0 t) (written_over S.codes codes) (written_over S.trace trace) (states_of S.devices ++ drop n begun)) (take_at S.trace (drop (length S.trace) trace) (length S.trace) refl)
+      ap (λ (t : List ℕ). search_outcome (found_in 0 t) (written_over S.codes codes) (written_over S.trace trace) (states_of S.devices ++ drop n begun)) (take_at S.trace (drop (length S.trace) trace) (length S.trace) refl)
       ∙ ap (λ (l : List LineState). search_outcome (found_in 0 S.trace) (written_over S.codes codes) (written_over S.trace trace) (states_of S.devices ++ l)) rest
       ∙ ap (λ (m : ℕ). search_outcome_at m image codes trace lines) (sym e)
 
+  -- a refusal is told by its number, and nothing is counted
   refused-at : (m : ℕ) → T (not (eqb m 0)) → search_outcome (found_in m (take 0 trace)) codes trace lines ≡ search_outcome_at m image codes trace lines
   unfolding search_outcome_at
   refused-at zero t = absurd t
   refused-at (suc m) t = refl
 
-  pub refused : T (not (eqb number 0)) → search_outcome (found_in number (take 0 trace)) codes trace lines ≡ search_outcome_of image codes trace lines
+  -- an `Err` tells its refusal's number, which is not 0
+  refusal-at : (e : Refusal) → search_outcome (search_told (Err e)) codes trace lines ≡ search_outcome_at (refusal_number e) image codes trace lines
+  unfolding search_told found_in passes_in resets_in slots_in
+  refusal-at e = refused-at (refusal_number e) (some_refusal e)
+
+  pub refused : (e : Refusal) → refusal_number e ≡ number → search_outcome (search_told (Err e)) codes trace lines ≡ search_outcome_of image codes trace lines
   unfolding search_outcome_of
-  refused t = refused-at number t
+  refused e h = refusal-at e ∙ ap (λ (m : ℕ). search_outcome_at m image codes trace lines) h
 
 -- what a search left, as one equation and as an equation for each thing
-pub leaves : (left : SearchOutcome) (found : Found) (codes trace : List ℕ) (lines : List LineState) → search_outcome found codes trace lines ≡ left → SearchLeaves left found codes trace lines
+pub leaves : (left : SearchOutcome) (found : SearchTold) (codes trace : List ℕ) (lines : List LineState) → search_outcome found codes trace lines ≡ left → SearchLeaves left found codes trace lines
 leaves left found codes trace lines e = record {
   found-is = ap (λ (o : SearchOutcome). o.found) e;
   codes-are = ap (λ (o : SearchOutcome). o.codes) e;
@@ -113,5 +121,5 @@ leaves left found codes trace lines e = record {
   lines_are = ap (λ (o : SearchOutcome). o.lines) e;
 }
 
-pub left_is : (left : SearchOutcome) (found : Found) (codes trace : List ℕ) (lines : List LineState) → SearchLeaves left found codes trace lines → search_outcome found codes trace lines ≡ left
+pub left_is : (left : SearchOutcome) (found : SearchTold) (codes trace : List ℕ) (lines : List LineState) → SearchLeaves left found codes trace lines → search_outcome found codes trace lines ≡ left
 left_is left found codes trace lines l = λ i. search_outcome (l.found-is i) (l.codes-are i) (l.trace-is i) (l.lines_are i)

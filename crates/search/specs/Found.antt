@@ -1,7 +1,9 @@
 -- Document 01, 'The searching master' and 'Refusals in order', is stated here: what a search returns and leaves, for
 -- every image and room.
-use Rattle.std.specs.Prelude.{ℕ, zero, suc, ◌≡◌, List, [], ◌++◌, length, drop}
+use Rattle.std.specs.Prelude.{ℕ, zero, suc, ◌≡◌, List, [], ◌++◌, length, drop, Result, Ok, Err}
+use Rattle.image.specs.declared.Refusal.{Refusal}
 use Rattle.image.specs.Image.{count_of}
+use Rattle.image.specs.Refusal.{refusal_number}
 use Rattle.device.specs.declared.LineState.{LineState}
 use Rattle.master.specs.Drive.{written_over}
 use Rattle.bus.specs.Run.{states_of}
@@ -10,28 +12,40 @@ use Rattle.search_laws.specs.Words.{resets_in, slots_in, passes_in}
 use Rattle.search.specs.declared.Found.{Found}
 use Rattle.search.specs.Refusal.{search_refusal}
 
--- A search returns its number, and counts the passes, resets and slots in its trace.
-unfoldable pub found_in : ℕ → List ℕ → Found
+-- A search tells its number, 0 where it is not refused, and counts passes, resets and slots.
+pub record SearchTold : Type 0 where
+  pub number : ℕ
+  pub passes : ℕ
+  pub resets : ℕ
+  pub slots : ℕ
+
+-- A search that is refused has counted nothing.
+unfoldable pub search_told : Result Found Refusal → SearchTold
+search_told (Ok found) = record { number = 0; passes = found.passes; resets = found.resets; slots = found.slots }
+search_told (Err refusal) = record { number = refusal_number refusal; passes = 0; resets = 0; slots = 0 }
+
+-- The passes, resets and slots are counted in the trace.
+unfoldable pub found_in : ℕ → List ℕ → SearchTold
 found_in number trace =
     record { number = number; passes = passes_in trace; resets = resets_in trace; slots = slots_in trace }
 
--- A search leaves what it returns, the codes, the trace and the line states; the image is only read.
+-- A search leaves what it tells, the codes, the trace and the line states; the image is only read.
 pub record SearchOutcome : Type 0 where
-  pub found : Found
+  pub found : SearchTold
   pub codes : List ℕ
   pub trace : List ℕ
   pub lines : List LineState
 
-abbrev pub search_outcome : Found → List ℕ → List ℕ → List LineState → SearchOutcome
+abbrev pub search_outcome : SearchTold → List ℕ → List ℕ → List LineState → SearchOutcome
 search_outcome found codes trace lines = record { found = found; codes = codes; trace = trace; lines = lines }
 
--- What a search returned and left is equal to this outcome, part by part.
-pub record SearchLeaves (left : SearchOutcome) (found : Found) (codes trace : List ℕ) (lines : List LineState) : Type 0
-  where
-    pub found-is : found ≡ left.found
-    pub codes-are : codes ≡ left.codes
-    pub trace-is : trace ≡ left.trace
-    pub lines_are : lines ≡ left.lines
+-- What a search told and left is equal to this outcome, part by part.
+pub record SearchLeaves (left : SearchOutcome) (found : SearchTold) (codes trace : List ℕ) (lines : List LineState)
+    : Type 0 where
+  pub found-is : found ≡ left.found
+  pub codes-are : codes ≡ left.codes
+  pub trace-is : trace ≡ left.trace
+  pub lines_are : lines ≡ left.lines
 
 -- A search that is not refused leaves the bytes and line states past those named as they were; what the line states
 -- held before is ignored.

@@ -1,24 +1,13 @@
 -- Nothing here is from document 01: these definitions say what the functions of `src/` below `search` do and ask for. A
 -- reader of what a search does can skip them.
-use Rattle.std.specs.Prelude.{ℕ, ◌*◌, ◌≤◌, ◌≡◌, Bool, true, false, List, length, take, replicate}
+use Rattle.std.specs.Prelude.{ℕ, ◌*◌, ◌≤◌, ◌≡◌, List, length, take, replicate}
 use Rattle.image.specs.Image.{count_of}
 use Rattle.image.specs.Refusal.{image_refusal}
 use Rattle.device.specs.declared.LineState.{LineState}
 use Rattle.device.specs.Device.{waiting_state}
-use Rattle.master.specs.declared.Answer.{Answer}
-use Rattle.master.specs.Master.{code_bytes, reset_event}
+use Rattle.master.specs.Master.{code_bytes}
 use Rattle.search_laws.specs.Words.{Bytes}
 use Rattle.search_laws.specs.Searched.{events_for}
-
--- A step's answer is an event or the end.
-unfoldable pub has_event : Answer → Bool
-has_event (Answer.Event event) = true
-has_event (Answer.End e) = false
-
--- At the end there is no event to send, and a reset stands in its place.
-unfoldable pub event_in : Answer → ℕ
-event_in (Answer.Event event) = event
-event_in (Answer.End e) = reset_event
 
 -- The exchanges ask for an image that is not refused, room, and every device waiting.
 pub record Ready (image codes trace : List ℕ) (lines : List LineState) : Type 0 where

@@ -5,9 +5,10 @@
 // buffers.
 #![tactic(auto)]
 
-ghost use Rattle.std.specs.Prelude.{◌≡◌, ◌≤◌, ◌<◌, ◌+◌, ◌*◌, cond, ◌&&◌, ◌++◌, length, take, drop, get_or};
+ghost use Rattle.std.specs.Prelude.{◌≡◌, ◌≤◌, ◌*◌, cond, ◌&&◌, ◌++◌, length, drop, OnOk};
 ghost use Rattle.std.proofs.lemmas.List.Edits.{sets};
 ghost use Rattle.image.specs.Image.{count_of};
+ghost use Rattle.image.specs.Refusal.{told_number};
 ghost use Rattle.master.specs.Master.{code_bytes, next_master, step_of};
 ghost use Rattle.master.specs.Drive.{code_completed, written_over};
 ghost use Rattle.bits.specs.Bit.{level_byte};
@@ -17,19 +18,16 @@ ghost use Rattle.search_laws.specs.Search.{search_of};
 ghost use Rattle.search_laws.specs.Searched.{Searched, events_for};
 ghost use Rattle.search_laws.specs.Words.{Bytes, is_reset, is_slot, resets_in, slots_in, passes_in};
 ghost use Rattle.search.specs.Refusal.{no_search_room, search_refusal};
-ghost use Rattle.search.specs.Found.{found_in, SearchLeaves, search_outcome_of};
-ghost use Rattle.search.specs.Loops.{has_event, event_in, Ready};
+ghost use Rattle.search.specs.Found.{found_in, search_told, SearchLeaves, search_outcome_of};
+ghost use Rattle.search.specs.Loops.{Ready};
 
 use device::LineState;
-use image::ACCEPTED;
+use image::Refusal;
 use master::{Answer, CODE_BYTES, Master, PASS_EVENTS, RESET, Step};
 
-// A search returns this beside what it writes to its buffers.
+// A search that is not refused returns the numbers of passes, resets and slots in the trace that it wrote.
 #[derive(Clone, Copy)]
 pub struct Found {
-    // The number is 0 where the search is not refused.
-    pub number: u32,
-    // The passes, resets and slots are counted in the trace that the search wrote.
     pub passes: u64,
     pub resets: u64,
     pub slots: u64,
@@ -37,77 +35,39 @@ pub struct Found {
 
 // ---- why a search is refused
 
-// A search of n devices has so many events.
+// A search of n devices has so many events, and one of none has one.
 fn trace_room(n: u8) -> usize
     ensures { result ≡ events_for n }
 {
-    if n == 0 {
-        return 1;
-    }
-    PASS_EVENTS * bits::wide(n)
+    (PASS_EVENTS * usize::from(n)).max(1)
 }
 
 // Cause 7 is too little room for the codes or the trace, or too few line states.
+#[tactic(auto, unfolding(crate::specs::Refusal::no_search_room))]
 fn lacks_room(image: &[u8], codes: usize, trace: usize, lines: usize) -> bool
     ensures { result ≡ no_search_room image.now codes trace lines }
 {
     let n = image::count(image);
-    if codes < CODE_BYTES * bits::wide(n) {
-        return true;
-    }
-    if trace < trace_room(n) {
-        return true;
-    }
-    lines < bits::wide(n)
+    codes < CODE_BYTES * usize::from(n) || trace < trace_room(n) || lines < usize::from(n)
 }
 
-// A search is refused with the number of the first cause that applies, 1 to 4 or 7; the number is 0 where none does.
-fn refusal(image: &[u8], codes: usize, trace: usize, lines: usize) -> u32
-    ensures { (result ≡ search_refusal image.now codes trace lines) × Bytes image.now }
+// A search is refused for the first cause that applies, 1 to 4 or 7.
+fn check(image: &[u8], codes: usize, trace: usize, lines: usize) -> Result<(), Refusal>
+    ensures { (told_number result ≡ search_refusal image.now codes trace lines) × Bytes image.now }
 {
-    let number = image::refusal(image);
-    if number != ACCEPTED {
-        return number;
-    }
+    image::check(image)?;
     if lacks_room(image, codes, trace, lines) {
-        return 7;
+        return Err(Refusal::NoRoom);
     }
-    ACCEPTED
+    Ok(())
 }
 
 // ---- one exchange
 
-// This tells whether a step answered with an event, and not with the end.
-fn has_event(step: Step) -> bool
-    ensures { result ≡ has_event step.answer }
-{
-    let answer = step.answer();
-    match answer {
-        Answer::Event(_) => true,
-        Answer::End(_) => false,
-    }
-}
-
-// At the end there is no event to send, and a reset stands in its place.
-fn event_in(step: Step) -> u8
-    ensures { result ≡ event_in step.answer }
-{
-    let answer = step.answer();
-    match answer {
-        Answer::Event(event) => event,
-        Answer::End(_) => RESET,
-    }
-}
-
-// A level is 0 or 1 as a byte.
-fn level_byte(level: bool) -> u8
-    ensures { result ≡ level_byte level }
-{
-    if level { 1 } else { 0 }
-}
-
 // The first n devices answer an event with its level, as a byte, which each of them is then given. The image is only
 // read.
+// As it is: n stands beside the line states, as `bus::step_all` has it, whose definition keeps those from n on.
+#[tactic(auto, unfolding(bus::specs::Loops::scan_on, bits::specs::Bit::level_byte))]
 fn answered(image: &[u8], lines: &mut [LineState], n: usize, event: u8) -> u8
     ensures { (result ≡ level_byte (level_on lines.old n event))
         × (lines.new
@@ -115,7 +75,7 @@ fn answered(image: &[u8], lines: &mut [LineState], n: usize, event: u8) -> u8
 {
     let scan = bus::level(lines, n, event);
     bus::step_all(image, lines, n, event, scan.level);
-    level_byte(scan.level)
+    u8::from(scan.level)
 }
 
 // The master takes a step, and the code that the step completed, if it did, is stored. The search steps the master
@@ -125,79 +85,68 @@ fn stepped(codes: &mut [u8], master: Master, level: u8) -> Step
         × (codes.new ≡ sets codes.old (code_bytes * master.passes)
         (code_completed master.passes (next_master master level))) }
 {
-    let completed = master.passes();
     let step = master.step(level);
-    let next = step.next();
-    master::keep_code(codes, completed, next);
+    master::keep_code(codes, master.passes(), step.next());
     step
 }
 
 // ---- counts
 
-fn one_if(yes: bool) -> u64
-    ensures { (result ≡ cond yes 1 0) × (result ≤ 1) }
-{
-    if yes { 1 } else { 0 }
-}
-
+// As it is: a chain of `filter` and `count` misses the speed of this loop, which the compiler makes one over vectors.
 fn resets_in(trace: &[u8]) -> u64
     ensures { result ≡ resets_in trace.now }
 {
-    let mut count: u64 = 0;
-    let mut i = 0;
-    while i < trace.len() {
-        count = count + one_if(trace[i] == RESET);
-        i += 1;
+    let mut count = 0;
+    for event in trace {
+        if *event == RESET {
+            count += 1;
+        }
     }
     count
 }
 
+// As it is: a chain misses the speed of this loop, and one count over a closure needs a clause longer than two loops.
 fn slots_in(trace: &[u8]) -> u64
     ensures { result ≡ slots_in trace.now }
 {
-    let mut count: u64 = 0;
-    let mut i = 0;
-    while i < trace.len() {
-        count = count + one_if(trace[i] < RESET);
-        i += 1;
+    let mut count = 0;
+    for event in trace {
+        if *event < RESET {
+            count += 1;
+        }
     }
     count
 }
 
 // A pass begins with a reset that has a slot right after it.
+#[tactic(auto, unfolding(search_laws::specs::Words::is_reset, search_laws::specs::Words::is_slot))]
 fn begins_pass(event: u8, after: u8) -> bool
     ensures { result ≡ (is_reset event && is_slot after) }
 {
     event == RESET && after < RESET
 }
 
-// The last event begins no pass, as none comes after it. Each turn reads two events whatever they are, so that the
-// compiler makes the loop one over vectors.
+// The last event begins no pass, as none comes after it.
+// As it is: a chain of `windows`, `filter` and `count` is as long, and this is the loop of the two counts above.
 fn passes_in(trace: &[u8]) -> u64
     ensures { result ≡ passes_in trace.now }
 {
-    let mut count: u64 = 0;
-    let mut i = 0;
-    while i + 1 < trace.len() {
-        count = count + one_if(begins_pass(trace[i], trace[i + 1]));
-        i += 1;
+    let mut count = 0;
+    for pair in trace.windows(2) {
+        if begins_pass(pair[0], pair[1]) {
+            count += 1;
+        }
     }
     count
 }
 
-// The events that were sent are the first `sent` bytes of the trace; passes, resets and slots are counted in them.
-fn tally(number: u32, trace: &[u8], sent: usize) -> Found
-    requires { sent ≤ length trace.now }
-    ensures { result ≡ found_in number (take sent trace.now) }
+fn tally(trace: &[u8]) -> Found
+    ensures { search_told (Ok result) ≡ found_in 0 trace.now }
 {
-    let passes = passes_in(&trace[0..sent]);
-    let resets = resets_in(&trace[0..sent]);
-    let slots = slots_in(&trace[0..sent]);
     Found {
-        number,
-        passes,
-        resets,
-        slots,
+        passes: passes_in(trace),
+        resets: resets_in(trace),
+        slots: slots_in(trace),
     }
 }
 
@@ -206,6 +155,7 @@ fn tally(number: u32, trace: &[u8], sent: usize) -> Found
 // These are the exchanges for an image that is not refused, on devices that wait: each event that the master answers
 // goes to the devices as the one before left them, and the level that they answer goes to the master's next step. The
 // first step is given a level too, which it does not look at. The number of events is returned.
+// As it is: the master tells when it ends, and tests/forms holds this loop, so that `sent` counts what it sent.
 fn exchange(image: &[u8], codes: &mut [u8], trace: &mut [u8], lines: &mut [LineState]) -> usize
     requires { Ready image.now codes.old trace.old lines.old }
     ensures { (result ≡ length (search_of image.now).trace)
@@ -217,36 +167,36 @@ fn exchange(image: &[u8], codes: &mut [u8], trace: &mut [u8], lines: &mut [LineS
 {
     let n = bus::device_count(image);
     let mut master = Master::fresh();
-    let mut level: u8 = 0;
-    let mut sent: usize = 0;
-    let mut going = true;
-    while going {
+    let mut level = 0;
+    let mut sent = 0;
+    loop {
         let step = stepped(codes, master, level);
         master = step.next();
-        going = has_event(step);
-        if going {
-            let event = event_in(step);
-            bits::put_byte(trace, sent, event);
-            level = answered(image, lines, n, event);
-            sent = sent + 1;
-        }
+        let Answer::Event(event) = step.answer() else {
+            return sent;
+        };
+        bits::put_byte(trace, sent, event);
+        level = answered(image, lines, n, event);
+        sent += 1;
     }
-    sent
 }
 
 // A search that is refused changes nothing; in any other every device starts waiting, whatever the line states held.
-pub fn search(image: &[u8], codes: &mut [u8], trace: &mut [u8], lines: &mut [LineState]) -> Found
+// As it is: image, codes, trace and line states are arguments of their own, as the C interface lends each by itself.
+pub fn search(
+    image: &[u8],
+    codes: &mut [u8],
+    trace: &mut [u8],
+    lines: &mut [LineState],
+) -> Result<Found, Refusal>
     ensures { SearchLeaves
-        (search_outcome_of image.now codes.old trace.old lines.old) result
+        (search_outcome_of image.now codes.old trace.old lines.old) (search_told result)
         codes.new trace.new lines.new
-        × (result.number ≡ 0 → Searched image.now (search_of image.now)) }
+        × OnOk result (Searched image.now (search_of image.now)) }
 {
-    let number = refusal(image, codes.len(), trace.len(), lines.len());
-    let mut sent: usize = 0;
-    if number == ACCEPTED {
-        let n = bus::device_count(image);
-        bus::wait_all(lines, n);
-        sent = exchange(image, codes, trace, lines);
-    }
-    tally(number, trace, sent)
+    check(image, codes.len(), trace.len(), lines.len())?;
+    let n = bus::device_count(image);
+    bus::wait_all(lines, n);
+    let sent = exchange(image, codes, trace, lines);
+    Ok(tally(&trace[..sent]))
 }

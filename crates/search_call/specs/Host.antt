@@ -3,11 +3,10 @@
 use Rattle.std.specs.Prelude.{ℕ, ◌≡◌, List, replicate}
 use Rattle.device.specs.Device.{waiting_state}
 use Rattle.image.specs.Counted.{count_after}
-use Rattle.search.specs.declared.Found.{Found}
-use Rattle.search.specs.Found.{SearchOutcome, search_outcome_of}
+use Rattle.search.specs.Found.{SearchTold, SearchOutcome, search_outcome_of}
 
--- Of a search without its line states, what it returns, the codes and the trace are left.
-pub record OwnSearchLeaves (left : SearchOutcome) (found : Found) (codes trace : List ℕ) : Type 0 where
+-- Of a search without its line states, what it tells, the codes and the trace are left.
+pub record OwnSearchLeaves (left : SearchOutcome) (found : SearchTold) (codes trace : List ℕ) : Type 0 where
   pub found-is : found ≡ left.found
   pub codes-are : codes ≡ left.codes
   pub trace-is : trace ≡ left.trace

@@ -3,23 +3,23 @@
 // the run would be slower.
 #![tactic(auto)]
 
-ghost use Rattle.std.specs.Prelude.{◌≡◌};
+ghost use Rattle.std.specs.Prelude.{◌≡◌, OnOk};
 ghost use Rattle.search_laws.specs.Search.{search_of};
 ghost use Rattle.search_laws.specs.Searched.{Searched};
+ghost use Rattle.search.specs.Found.{search_told};
 ghost use Rattle.search_call.specs.Host.{OwnSearchLeaves, HostSearchLeaves, host_search};
 
 use device::LineState;
-use image::ACCEPTED;
+use image::{ACCEPTED, Refusal};
 use search::Found;
 
 // The search has 64 line states of its own, as an image has at most 64 devices.
-fn search_own(image: &[u8], codes: &mut [u8], trace: &mut [u8]) -> Found
-    ensures { OwnSearchLeaves (host_search image.now codes.old trace.old) result
+fn search_own(image: &[u8], codes: &mut [u8], trace: &mut [u8]) -> Result<Found, Refusal>
+    ensures { OwnSearchLeaves (host_search image.now codes.old trace.old) (search_told result)
         codes.new trace.new
-        × (result.number ≡ 0 → Searched image.now (search_of image.now)) }
+        × OnOk result (Searched image.now (search_of image.now)) }
 {
-    let waiting = LineState::waiting();
-    let mut lines = [waiting; 64];
+    let mut lines = [LineState::waiting(); 64];
     search::search(image, codes, trace, &mut lines)
 }
 
@@ -38,12 +38,13 @@ pub extern "C" fn troughiron_search(
         passes.new resets.new slots.new
         × (result ≡ 0 → Searched image.now (search_of image.now)) }
 {
-    let found = search_own(image, codes, trace);
-    let number = found.number;
-    if number == ACCEPTED {
-        *passes = found.passes;
-        *resets = found.resets;
-        *slots = found.slots;
+    match search_own(image, codes, trace) {
+        Ok(found) => {
+            *passes = found.passes;
+            *resets = found.resets;
+            *slots = found.slots;
+            ACCEPTED
+        }
+        Err(refusal) => u32::from(refusal),
     }
-    number
 }

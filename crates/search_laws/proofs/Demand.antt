@@ -1,4 +1,5 @@
 -- Demand 3: the search of every accepted image is what `Searched` says. Assumes nothing.
+use Rattle.std.specs.Prelude.{None}
 use Prim.Native.Nat.{ℕ, zero, suc, ◌*◌, ◌<◌, ◌≤◌}
 use mathlib.Core.Path.{◌≡◌, refl, sym, ap, ◌∙◌, subst}
 use mathlib.Core.Bool.{Bool, false}
@@ -21,7 +22,6 @@ use Rattle.bus.proofs.Runs.{run_length}
 use Rattle.bus.proofs.Shown.{waiting-all, waiting-image}
 use Rattle.master.specs.declared.End.TheVariants.{Done}
 use Rattle.master.specs.declared.Stage.TheVariants.{Reset, Ended}
-use Rattle.master.specs.declared.Discrepancy.TheVariants.{None}
 use Rattle.master.specs.declared.Master.{Master}
 use Rattle.master.specs.Master.{end, end_number, reset_event, answer_value, answer_of as answer_in, master_answer, no_bits, fresh_master, master_at_stage, master_in_range, stage_in_range, step_by_stage, master_after_reset, master_after_level, next_master}
 use Rattle.master.specs.Drive.{started_master, code_completed}

@@ -102,14 +102,14 @@ regular-hears s sent d e = choose (line_state_in_range s d.kind d.body)
     choose false = refl
 
 -- there only the line state changes
-slot_next : (s t : LineState) (sent level : Bool) (d : Device) → InRom s → state_after_slot s d.kind d.body level ≡ t
+slot-turn : (s t : LineState) (sent level : Bool) (d : Device) → InRom s → state_after_slot s d.kind d.body level ≡ t
     → next_device (Slot sent) level (in_state s d) ≡ in_state t d
 unfolding next_device next_state next_body heard_state heard_body
-slot_next s t sent level d r e =
+slot-turn s t sent level d r e =
     rw (regular-hears s sent d r.2, rom-write s r.0 r.1 d.kind d.body level, e)
 
 waits-on : (sent level : Bool) (d : Device) → next_device (Slot sent) level (in_state waiting_state d) ≡ in_state waiting_state d
-waits-on sent level d = slot_next waiting_state waiting_state sent level d (Waiting, refl, refl) (waiting-step d.kind d.body level)
+waits-on sent level d = slot-turn waiting_state waiting_state sent level d (Waiting, refl, refl) (waiting-step d.kind d.body level)
 
 -- a slot that takes every device that takes part from one line state to another
 slot-all : (s t : Kind → List ℕ → LineState) (sent level : Bool) (ms : List Member) → ((kind : Kind) (body : List ℕ) → InRom (s kind body))
@@ -117,7 +117,7 @@ slot-all : (s t : Kind → List ℕ → LineState) (sent level : Bool) (ms : Lis
     → Sized (map device ms) → map (next_device (Slot sent) level) (stands_by s ms) ≡ stands_by t ms
 slot-all s t sent level [] r f z = refl
 slot-all s t sent level (active d ∷ ms) r f z =
-    let h = slot_next (s d.kind d.body) (t d.kind d.body) sent level d (r d.kind d.body) (f d z.0) in
+    let h = slot-turn (s d.kind d.body) (t d.kind d.body) sent level d (r d.kind d.body) (f d z.0) in
     let e = slot-all s t sent level ms r f z.1 in
     cc
 slot-all s t sent level (inactive d ∷ ms) r f z =
@@ -286,7 +286,7 @@ direction-next : (k : ℕ) (a b bit : Bool) (d : Device) → k < 64 → length d
 unfolding after_search
 direction-next k a b bit d low z =
     let same = beq (bit_at d.body k) bit in
-    slot_next (searches k (a ∷ b ∷ []) d.kind d.body) _ bit bit d (direction-in-rom k 0 low a b d.kind d.body) (search-after-direction k d.kind d.body z low a b bit)
+    slot-turn (searches k (a ∷ b ∷ []) d.kind d.body) _ bit bit d (direction-in-rom k 0 low a b d.kind d.body) (search-after-direction k d.kind d.body z low a b bit)
     ∙ choose-member same (cond (ltb k 63) (search_bit (k + 1) d.body) (addressed d.kind)) d
     ∙ same-standing same (next_bit k) d
 

@@ -1,12 +1,11 @@
 -- A search a pass at a time, over the codes on the bus: what a pass finds, and that the passes find the listing. Assumes nothing.
+use Rattle.std.specs.Prelude.{Option, None, Some}
 use mathlib.Core.Path.{◌≡◌, refl, sym, ap, ◌∙◌}
 use mathlib.Core.Bool.{Bool, true, false, not, ◌&&◌}
 use mathlib.Core.List.{List, [], ◌∷◌, ◌++◌, map, append-nil}
 use Prim.Native.Nat.{ℕ, zero, suc}
 use native.Mathlib.Omega.{arith}
 use lib.ListN.{length}
-use Rattle.master.specs.declared.Discrepancy.{Discrepancy}
-use Rattle.master.specs.declared.Discrepancy.TheVariants.{None, At}
 use Rattle.search_laws.proofs.Codes.{Code, branch, listing, Wide, branch-wide, branch-length, differ}
 
 -- the level in the two read slots of a bit, of devices with these codes left: no device sends a 0
@@ -23,7 +22,7 @@ complements-level ((x ∷ c) ∷ S) = not x && complements-level S
 -- how a pass ends: both slots of a bit read 1, or with the code and the last open discrepancy
 pub data Pass : Type 0 where
   none_answers : Pass
-  found : Code → Discrepancy → Pass
+  found : Code → Option ℕ → Pass
 
 -- the direction at levels a, b, where d is what is sent at 0,0
 abbrev pub direction : Bool → Bool → Bool → Bool
@@ -38,8 +37,8 @@ leaves-open a b d = not a && (not b && not d)
 
 abbrev pub put : Bool → Bool → Pass → Pass
 put d o none_answers = none_answers
-put d o (found c (At f)) = found (d ∷ c) (At (suc f))
-put d true (found c None) = found (d ∷ c) (At zero)
+put d o (found c (Some f)) = found (d ∷ c) (Some (suc f))
+put d true (found c None) = found (d ∷ c) (Some zero)
 put d false (found c None) = found (d ∷ c) None
 
 abbrev pub checked : Bool → Pass → Pass
@@ -61,9 +60,9 @@ directions-to zero c = true ∷ []
 directions-to (suc f) [] = false ∷ directions-to f []
 directions-to (suc f) (x ∷ c) = x ∷ directions-to f c
 
-abbrev pub directions-of : Code → Discrepancy → List Bool
+abbrev pub directions-of : Code → Option ℕ → List Bool
 directions-of c None = []
-directions-of c (At f) = directions-to f c
+directions-of c (Some f) = directions-to f c
 
 -- a pass over the m bits left of codes
 abbrev pub pass : ℕ → List Code → List Bool → Pass
@@ -103,7 +102,7 @@ listing-nil (suc m) = rw (listing-nil m)
 
 pub data Runs (m : ℕ) (S : List Code) : List Bool → List Code → Type 0 where
   last : {D : List Bool} {c : Code} → pass m S D ≡ found c None → Runs m S D (c ∷ [])
-  more : {D : List Bool} {c : Code} {f : ℕ} {L : List Code} → pass m S D ≡ found c (At f) → Runs m S (directions-to f c) L → Runs m S D (c ∷ L)
+  more : {D : List Bool} {c : Code} {f : ℕ} {L : List Code} → pass m S D ≡ found c (Some f) → Runs m S (directions-to f c) L → Runs m S D (c ∷ L)
 
 -- only the first pass goes by what it is given
 first-pass : (m : ℕ) (S : List Code) {D E : List Bool} {L : List Code} → pass m S E ≡ pass m S D → Runs m S D L → Runs m S E L

@@ -1,4 +1,5 @@
 -- The steps of the searching master in a pass whose levels are known. Assumes nothing.
+use Rattle.std.specs.Prelude.{Option, None, Some}
 use Prim.Native.Nat.{ℕ, suc, ◌+◌, ◌<◌}
 use mathlib.Core.Path.{◌≡◌, refl, ◌∙◌}
 use mathlib.Core.Bool.{Bool, true, false, ◌&&◌}
@@ -11,8 +12,6 @@ use Rattle.bits.specs.Crc.{registration_check}
 use Rattle.master.specs.declared.End.TheVariants.{Done}
 use Rattle.master.specs.declared.Stage.{Stage}
 use Rattle.master.specs.declared.Stage.TheVariants.{Reset, Command, FirstRead, SecondRead, Direction, Ended}
-use Rattle.master.specs.declared.Discrepancy.{Discrepancy}
-use Rattle.master.specs.declared.Discrepancy.TheVariants.{None, At}
 use Rattle.master.specs.declared.Master.{Master}
 use Rattle.master.specs.Master.{no_bits, master_at_stage, stage_in_range, master_in_range, master_after_reset, master_after_command, at_discrepancy, send_direction, open_after, master_after_reads, pass_completed, stage_after_pass, pass_end, master_after_direction, step_by_stage, master_after_level}
 use Rattle.master.specs.Drive.{code_completed}
@@ -21,15 +20,15 @@ use Rattle.search_laws.proofs.Codes.{differ}
 use Rattle.search_laws.proofs.Passes.{direction, leaves-open}
 
 -- a master by its fields: p codes completed; this pass's code and last open discrepancy so far; those of the pass before
-abbrev pub master_of : Stage → ℕ → List ℕ → Discrepancy → List ℕ → Discrepancy → Master
+abbrev pub master_of : Stage → ℕ → List ℕ → Option ℕ → List ℕ → Option ℕ → Master
 master_of stage p code opened previous last = record { stage = stage; passes = p; code = code; opened = opened; previous = previous; last = last }
 
 -- a discrepancy at bit k, if it is left open
-abbrev pub marked : Bool → ℕ → Discrepancy → Discrepancy
-marked true k opened = At k
+abbrev pub marked : Bool → ℕ → Option ℕ → Option ℕ
+marked true k opened = Some k
 marked false k opened = opened
 
-module _ (p : ℕ) (code : List ℕ) (opened : Discrepancy) (previous : List ℕ) (last : Discrepancy) (few : p < 64) where
+module _ (p : ℕ) (code : List ℕ) (opened : Option ℕ) (previous : List ℕ) (last : Option ℕ) (few : p < 64) where
   pub reset-step : master_after_level (master_of Reset p code opened previous last) false ≡ master_of (Command 0) p code opened previous last
   unfolding master_in_range stage_in_range step_by_stage master_after_reset master_at_stage
   reset-step = goes-by-stage (master_of Reset p code opened previous last) Reset false refl (lt-ltb p 64 few)
@@ -98,17 +97,17 @@ pub pass-last : (p : ℕ) → stage_after_pass None p ≡ Ended Done
 unfolding stage_after_pass
 pass-last p = refl
 
-pub pass-more : (p bit : ℕ) → p < 64 → stage_after_pass (At bit) p ≡ Reset
+pub pass-more : (p bit : ℕ) → p < 64 → stage_after_pass (Some bit) p ≡ Reset
 unfolding stage_after_pass
 pass-more p bit h = rw (lt-ltb p 64 h)
 
 -- the code that a step completes: none while the number of codes stays, that of the pass where it rises
-pub none-completed : (p : ℕ) (stage : Stage) (code : List ℕ) (opened : Discrepancy) (previous : List ℕ) (last : Discrepancy)
+pub none-completed : (p : ℕ) (stage : Stage) (code : List ℕ) (opened : Option ℕ) (previous : List ℕ) (last : Option ℕ)
     → code_completed p (master_of stage p code opened previous last) ≡ []
 unfolding code_completed
 none-completed p stage code opened previous last = rw (le-ltb p p (omega arith))
 
-pub one-completed : (p : ℕ) (stage : Stage) (code : List ℕ) (opened : Discrepancy) (previous : List ℕ) (last : Discrepancy)
+pub one-completed : (p : ℕ) (stage : Stage) (code : List ℕ) (opened : Option ℕ) (previous : List ℕ) (last : Option ℕ)
     → code_completed p (master_of stage (p + 1) code opened previous last) ≡ previous
 unfolding code_completed
 one-completed p stage code opened previous last = rw (lt-ltb p (p + 1) (omega arith))

@@ -1,4 +1,5 @@
 -- A pass of the master on the bus: slot by slot it finds what `pass` says of the codes. Assumes nothing.
+use Rattle.std.specs.Prelude.{Option, None, Some}
 use Prim.Native.Nat.{ℕ, zero, suc, ◌+◌, ◌<◌}
 use mathlib.Core.Path.{◌≡◌, refl, sym, ap, ◌∙◌, subst}
 use mathlib.Core.Bool.{Bool, true, false, cond, ◌&&◌}
@@ -19,8 +20,6 @@ use Rattle.bus.specs.declared.Event.{Event}
 use Rattle.bus.specs.declared.Event.TheVariants as events
 use Rattle.bus.specs.Bus.{Device, event_of, hears, answers_low, pulls_low, some_low, master_high, level_of, next_device}
 use Rattle.master.specs.declared.Stage.TheVariants.{Reset, Command, FirstRead, Direction}
-use Rattle.master.specs.declared.Discrepancy.{Discrepancy}
-use Rattle.master.specs.declared.Discrepancy.TheVariants.{None, At}
 use Rattle.master.specs.declared.Master.{Master}
 use Rattle.master.specs.Master.{event, slot_event, read_slot_event, reset_event, answer_value, answer_of as answer_in, master_answer, no_bits, at_discrepancy, stage_after_pass, master_after_level}
 use Rattle.master.specs.Drive.{code_completed}
@@ -58,29 +57,29 @@ sent-to (suc f) (suc k) [] = rw (tails-cons k false (directions-to f []), leb-su
 sent-to (suc f) (suc k) (x ∷ c) = rw (tails-cons k x (directions-to f c), leb-suc-suc (suc k) f, eqb-suc-suc k f) (sent-to f k c)
 
 -- the bytes of the previous code, where a discrepancy was left open
-abbrev pub Previous : Code → Discrepancy → List ℕ → Type 0
+abbrev pub Previous : Code → Option ℕ → List ℕ → Type 0
 Previous c None previous = Unit {0}
-Previous c (At f) previous = (j : ℕ) → j < 64 → bit_at previous j ≡ get_or c j false
+Previous c (Some f) previous = (j : ℕ) → j < 64 → bit_at previous j ≡ get_or c j false
 
-rule : (c : Code) (last : Discrepancy) (previous : List ℕ) (k : ℕ) → Previous c last previous → k < 64 → head-or-0 (tails k (directions-of c last)) ≡ at_discrepancy last previous k
+rule : (c : Code) (last : Option ℕ) (previous : List ℕ) (k : ℕ) → Previous c last previous → k < 64 → head-or-0 (tails k (directions-of c last)) ≡ at_discrepancy last previous k
 unfolding at_discrepancy
 rule c None previous k h low = rw (tails-nil k)
-rule c (At f) previous k h low = sent-to f k c ∙ ap (λ (b : Bool). cond (ltb k f) b (eqb k f)) (sym (h k low))
+rule c (Some f) previous k h low = sent-to f k c ∙ ap (λ (b : Bool). cond (ltb k f) b (eqb k f)) (sym (h k low))
 
 -- ---- a pass taken apart
 
 -- the last open discrepancy of bits from k on, f among them, o before them
-abbrev merged : ℕ → Discrepancy → Discrepancy → Discrepancy
+abbrev merged : ℕ → Option ℕ → Option ℕ → Option ℕ
 merged k None o = o
-merged k (At f) o = At (k + f)
+merged k (Some f) o = Some (k + f)
 
-apart : (x d o : Bool) (P : Pass) {c : Code} {h : Discrepancy} → checked x (put d o P) ≡ found c h
-    → (x ≡ false) × (b : Code) × (f : Discrepancy) × (P ≡ found b f) × (c ≡ d ∷ b) × ((k : ℕ) (q : Discrepancy) → merged (suc k) f (marked o k q) ≡ merged k h q)
+apart : (x d o : Bool) (P : Pass) {c : Code} {h : Option ℕ} → checked x (put d o P) ≡ found c h
+    → (x ≡ false) × (b : Code) × (f : Option ℕ) × (P ≡ found b f) × (c ≡ d ∷ b) × ((k : ℕ) (q : Option ℕ) → merged (suc k) f (marked o k q) ≡ merged k h q)
 apart true d o P e = differ (cc)
 apart false d o none_answers e = differ (cc)
-apart false d o (found b (At f)) {h = h} e =
-    (refl, b, At f, refl, cc, λ k q. let g : h ≡ At (suc f) = cc in rw g (ap At (omega arith)))
-apart false d true (found b None) {h = h} e = (refl, b, None, refl, cc, λ k q. let g : h ≡ At zero = cc in rw g (ap At (omega arith)))
+apart false d o (found b (Some f)) {h = h} e =
+    (refl, b, Some f, refl, cc, λ k q. let g : h ≡ Some (suc f) = cc in rw g (ap Some (omega arith)))
+apart false d true (found b None) {h = h} e = (refl, b, None, refl, cc, λ k q. let g : h ≡ Some zero = cc in rw g (ap Some (omega arith)))
 apart false d false (found b None) {h = h} e = (refl, b, None, refl, cc, λ k q. let g : h ≡ None = cc in rw g)
 
 -- at a bit of these codes: no device answers; the direction, where r is sent at 0,0; whether the direction d leaves a discrepancy open
@@ -144,9 +143,9 @@ active-bodies s t ms = standing-bodies s (map active (map device ms)) ∙ ap bod
 
 -- ---- the bits
 
-module _ (p : ℕ) (few : p < 64) (c : Code) (previous : List ℕ) (last : Discrepancy) (known : Previous c last previous) where
+module _ (p : ℕ) (few : p < 64) (c : Code) (previous : List ℕ) (last : Option ℕ) (known : Previous c last previous) where
   -- one bit: two read slots and a direction
-  bit : (k m : ℕ) (ms : List Member) (code : List ℕ) (opened : Discrepancy) (d : Bool) {n r : Master} {fs : List Device} {done trace codes : List ℕ}
+  bit : (k m : ℕ) (ms : List Member) (code : List ℕ) (opened : Option ℕ) (d : Bool) {n r : Master} {fs : List Device} {done trace codes : List ℕ}
       → k < 64 → Sized (map device ms)
       → silent (rests k (suc m) ms) ≡ false
       → d ≡ sent (rests k (suc m) ms) (at_discrepancy last previous k)
@@ -170,7 +169,7 @@ module _ (p : ℕ) (few : p < 64) (c : Code) (previous : List ℕ) (last : Discr
       (moved-bodies k d (next_bit k) at-direction ms) (direction-idle k m low read complement d ms) done go))
 
   -- the bits that are left of a pass, by which the code d is found, with h its last open discrepancy from bit k on
-  abbrev Rest : ℕ → List Member → List ℕ → Discrepancy → Code → Discrepancy → Type 0
+  abbrev Rest : ℕ → List Member → List ℕ → Option ℕ → Code → Option ℕ → Type 0
   Rest k ms code opened d h =
       (ns : List Member)
       × Driven (master_of (FirstRead k) p code opened previous last) (stands_by (searches k []) ms) (bit_events d) (put_bits code k d)
@@ -178,7 +177,7 @@ module _ (p : ℕ) (few : p < 64) (c : Code) (previous : List ℕ) (last : Discr
       × (map device ns ≡ map device ms)
 
   -- the last bit completes the code
-  rest-last : (k : ℕ) (ms : List Member) (code : List ℕ) (opened : Discrepancy) (x : Bool) (q h : Discrepancy) (d : Code) → k ≡ 63 → Sized (map device ms)
+  rest-last : (k : ℕ) (ms : List Member) (code : List ℕ) (opened : Option ℕ) (x : Bool) (q h : Option ℕ) (d : Code) → k ≡ 63 → Sized (map device ms)
       → silent (rests k 1 ms) ≡ false
       → x ≡ sent (rests k 1 ms) (at_discrepancy last previous k)
       → q ≡ marked (opens (rests k 1 ms) x) k opened
@@ -200,7 +199,7 @@ module _ (p : ℕ) (few : p < 64) (c : Code) (previous : List ℕ) (last : Discr
       )
 
   -- a bit, and those after it
-  rest_more : (k m : ℕ) (ms : List Member) (code : List ℕ) (opened : Discrepancy) (x : Bool) (q h i : Discrepancy) (b d : Code) → k < 63 → Sized (map device ms)
+  rest_more : (k m : ℕ) (ms : List Member) (code : List ℕ) (opened : Option ℕ) (x : Bool) (q h i : Option ℕ) (b d : Code) → k < 63 → Sized (map device ms)
       → silent (rests k (suc m) ms) ≡ false
       → x ≡ sent (rests k (suc m) ms) (at_discrepancy last previous k)
       → q ≡ marked (opens (rests k (suc m) ms) x) k opened
@@ -220,17 +219,17 @@ module _ (p : ℕ) (few : p < 64) (c : Code) (previous : List ℕ) (last : Discr
   abbrev sent_at : List Code → ℕ → Bool
   sent_at S k = sent S (at_discrepancy last previous k)
 
-  bit-apart : (m k : ℕ) (S : List Code) {d : Code} {h : Discrepancy} → k < 64 → pass (suc m) S (tails k (directions-of c last)) ≡ found d h
+  bit-apart : (m k : ℕ) (S : List Code) {d : Code} {h : Option ℕ} → k < 64 → pass (suc m) S (tails k (directions-of c last)) ≡ found d h
       → (silent S ≡ false)
-      × (b : Code) × (i : Discrepancy)
+      × (b : Code) × (i : Option ℕ)
       × (pass m (branch (sent_at S k) S) (tails (suc k) (directions-of c last)) ≡ found b i)
       × (d ≡ sent_at S k ∷ b)
-      × ((n : ℕ) (q : Discrepancy) → merged (suc n) i (marked (opens S (sent_at S k)) n q) ≡ merged n h q)
+      × ((n : ℕ) (q : Option ℕ) → merged (suc n) i (marked (opens S (sent_at S k)) n q) ≡ merged n h q)
   bit-apart m k S low f =
       apart (silent S) (sent_at S k) (opens S (sent_at S k)) (pass m (branch (sent_at S k) S) (tails (suc k) (directions-of c last)))
       (sym (pass-is m S (tails k (directions-of c last)) (at_discrepancy last previous k) (rule c last previous k known low)) ∙ f)
 
-  bits : (m k : ℕ) (ms : List Member) (code : List ℕ) (opened : Discrepancy) {d : Code} {h : Discrepancy} → k + suc m ≡ 64 → Sized (map device ms)
+  bits : (m k : ℕ) (ms : List Member) (code : List ℕ) (opened : Option ℕ) {d : Code} {h : Option ℕ} → k + suc m ≡ 64 → Sized (map device ms)
       → pass (suc m) (rests k (suc m) ms) (tails k (directions-of c last)) ≡ found d h → registration_check (put_bits code k d) ≡ true → Rest k ms code opened d h
   unfolding put_bits
   bits zero k ms code opened {d} {h} e z f r =
@@ -240,7 +239,7 @@ module _ (p : ℕ) (few : p < 64) (c : Code) (previous : List ℕ) (last : Discr
       let none : u.1 ≡ [] = let g = u.3 in cc in
       let closed : None ≡ u.2 = let g = u.3 in cc in
       rest-last k ms code opened x (marked (opens S x) k opened) h d (omega arith) z u.0 refl refl (u.4 ∙ ap (λ (b : Code). x ∷ b) none)
-      (ap (λ (i : Discrepancy). merged (suc k) i (marked (opens S x) k opened)) closed ∙ u.5 k opened) r
+      (ap (λ (i : Option ℕ). merged (suc k) i (marked (opens S x) k opened)) closed ∙ u.5 k opened) r
   bits (suc m) k ms code opened {d} {h} e z f r =
       let S = rests k (suc (suc m)) ms in
       let u = bit-apart (suc m) k S (omega arith) f in
@@ -253,7 +252,7 @@ module _ (p : ℕ) (few : p < 64) (c : Code) (previous : List ℕ) (last : Discr
   -- ---- reset and command
 
   -- a bit of the command but the last: every device hears the bit that the master sends
-  command-slot : (levels : List Bool) (at : ℕ) (b : Bool) (ms : List Member) (code : List ℕ) (opened : Discrepancy) {r : Master} {fs : List Device} {trace codes : List ℕ}
+  command-slot : (levels : List Bool) (at : ℕ) (b : Bool) (ms : List Member) (code : List ℕ) (opened : Option ℕ) {r : Master} {fs : List Device} {trace codes : List ℕ}
       → length levels ≡ at → at < 7 → Sized (map device ms) → answer_value (answer_in (Command at)) ≡ event (slot_event b)
       → Driven (master_of (Command (at + 1)) p code opened previous last) (stands (commanded (levels ++ b ∷ [])) ms) trace codes r fs
       → Driven (master_of (Command at) p code opened previous last) (stands (commanded levels) ms) (slot_event b ∷ trace) codes r fs
@@ -263,7 +262,7 @@ module _ (p : ℕ) (few : p < 64) (c : Code) (previous : List ℕ) (last : Discr
       (command-idle levels b ms) (none-completed p _ _ _ _ _) go
 
   -- F0h
-  command : (ms : List Member) (code : List ℕ) (opened : Discrepancy) {r : Master} {fs : List Device} {trace codes : List ℕ} → Sized (map device ms)
+  command : (ms : List Member) (code : List ℕ) (opened : Option ℕ) {r : Master} {fs : List Device} {trace codes : List ℕ} → Sized (map device ms)
       → Driven (master_of (FirstRead 0) p code opened previous last) (stands_by (searches 0 []) ms) trace codes r fs
       → Driven (master_of (Command 0) p code opened previous last) (stands reset_state ms) (0 ∷ 0 ∷ 0 ∷ 0 ∷ 1 ∷ 1 ∷ 1 ∷ 1 ∷ trace) codes r fs
   unfolding answer_value answer_in slot_event bit_of shifted_over spelled level_byte rom_command command_speed
@@ -288,7 +287,7 @@ module _ (p : ℕ) (few : p < 64) (c : Code) (previous : List ℕ) (last : Discr
 
   -- A whole pass: the master driven by devices, in a stage in which a reset changes no body, sends the events of the code that the pass finds, and
   -- has then completed it; the devices are the same.
-  pub whole-pass : (s : Kind → List ℕ → LineState) (ms : List Member) {d : Code} {h : Discrepancy} → Unwritten s → Sized (map device ms) → 0 < length ms
+  pub whole-pass : (s : Kind → List ℕ → LineState) (ms : List Member) {d : Code} {h : Option ℕ} → Unwritten s → Sized (map device ms) → 0 < length ms
       → pass 64 (map (λ (x : Device). bits_from x.body 0 64) (map device ms)) (directions-of c last) ≡ found d h
       → registration_check (put_bits no_bits 0 d) ≡ true
       → (ns : List Member)
@@ -309,6 +308,6 @@ module _ (p : ℕ) (few : p < 64) (c : Code) (previous : List ℕ) (last : Discr
         rest.2 ∙ same,
       )
     where
-      start : (h : Discrepancy) → merged 0 h None ≡ h
+      start : (h : Option ℕ) → merged 0 h None ≡ h
       start None = refl
-      start (At f) = ap At (omega arith)
+      start (Some f) = ap Some (omega arith)

@@ -1,4 +1,5 @@
 -- The whole search of devices on the bus: the passes find the codes in order, and no device is changed. Assumes nothing.
+use Rattle.std.specs.Prelude.{Option, None, Some}
 use Prim.Native.Nat.{ℕ, ◌+◌, ◌<◌, ◌≤◌}
 use mathlib.Core.Path.{◌≡◌, refl, ap, ◌∙◌}
 use mathlib.Core.Bool.{Bool, true}
@@ -11,8 +12,6 @@ use Rattle.device.specs.declared.LineState.{LineState}
 use Rattle.bus.specs.Bus.{Device}
 use Rattle.master.specs.declared.Stage.{Stage}
 use Rattle.master.specs.declared.Stage.TheVariants.{Reset}
-use Rattle.master.specs.declared.Discrepancy.{Discrepancy}
-use Rattle.master.specs.declared.Discrepancy.TheVariants.{None, At}
 use Rattle.master.specs.declared.Master.{Master}
 use Rattle.master.specs.Master.{end, end_number, answer_value, answer_of as answer_in, master_answer, no_bits, stage_after_pass}
 use Rattle.search_laws.proofs.Codes.{Code}
@@ -56,7 +55,7 @@ abbrev pub Taken : List Code → Type 0
 Taken L = (d : Code) → Memᴰ d L → (length d ≡ 64) × (registration_check (bytes_of d) ≡ true)
 
 module _ (ds : List Device) (z : Sized ds) (some : 0 < length ds) where
-  pub passes-drive : {D : List Bool} {L : List Code} → Runs 64 (codes_of ds) D L → (p : ℕ) (c : Code) (previous : List ℕ) (f : Discrepancy) (s : Kind → List ℕ → LineState) (ms : List Member)
+  pub passes-drive : {D : List Bool} {L : List Code} → Runs 64 (codes_of ds) D L → (p : ℕ) (c : Code) (previous : List ℕ) (f : Option ℕ) (s : Kind → List ℕ → LineState) (ms : List Member)
       → directions-of c f ≡ D → Previous c f previous → Unwritten s → map device ms ≡ ds → Taken L → p + length L ≤ 64
       → Ends (master_of Reset p no_bits None previous f) ds (stands_by s ms) L
   unfolding answer_value answer_in end_number
@@ -73,12 +72,12 @@ module _ (ds : List Device) (z : Sized ds) (some : 0 < length ds) where
         devices = w.2 ∙ same;
       }
   passes-drive (more {c = d} {f = g} {L = L} e r) p c previous f s ms pd pk u same taken few =
-      let found-d : pass 64 (codes_of (map device ms)) (directions-of c f) ≡ found d (At g) =
+      let found-d : pass 64 (codes_of (map device ms)) (directions-of c f) ≡ found d (Some g) =
       ap (λ (es : List Device). pass 64 (codes_of es) (directions-of c f)) same ∙ ap (pass 64 (codes_of ds)) pd ∙ e in
       let sized : Sized (map device ms) = rw same z in
       let w = whole-pass p (omega arith) c previous f pk s ms u sized (some-members ms ds same some) found-d (taken d (Memᴰ.head refl)).1 in
       let left = runs-some r in
-      let rest = passes-drive r (p + 1) d (bytes_of d) (At g) addressed_state w.0 refl (λ j h. bytes-bit d j (taken d (Memᴰ.head refl)).0 h) addressed-unwritten
+      let rest = passes-drive r (p + 1) d (bytes_of d) (Some g) addressed_state w.0 refl (λ j h. bytes-bit d j (taken d (Memᴰ.head refl)).0 h) addressed-unwritten
       (w.2 ∙ same) (λ x h. taken x (Memᴰ.tail h)) (omega arith) in
       record {
         master = rest.master;

@@ -10,8 +10,8 @@ use lib.Dec.{ltb, eqb}
 use Rattle.bits.specs.Bit.{byte_of, bit_place, bit_at, with_bit, put_bit}
 use Rattle.kind.specs.Kind.{code_length, ta1, ta2, es, scratchpad, memory}
 use Rattle.line.specs.declared.SramStage.{SramStage}
-use Rattle.line.specs.declared.SramStage.TheVariants.{WriteLow, WriteHigh, WriteData, ReadRegister, ReadScratchpad}
-use Rattle.line.specs.declared.SramStage.TheVariants.{CopyPattern, Copied, ReadLow, ReadHigh, ReadMemory}
+use Rattle.line.specs.declared.SramStage.TheVariants.{WriteHigh, WriteData}
+use Rattle.line.specs.declared.SramStage.TheVariants.{CopyPattern, ReadHigh}
 use Rattle.sram.specs.Sram.{pf, of, aa, target_address, load_address, load_target, begin_byte, store_bit, write_bit, end_data}
 use Rattle.sram.specs.Sram.{copy_bytes, copy_to_memory, accept_copy, pattern_same, pattern_write, sram_write, sram_reset}
 
@@ -85,27 +85,14 @@ accept-keeps size body =
 pub write_keeps : (s : SramStage) (size value : ℕ) (body : List ℕ) (level : Bool)
     → Keeps body (sram_write s size value body level)
 unfolding sram_write pattern_write
-write_keeps WriteLow size value body level = kept
 write_keeps (WriteHigh low) size value body level = load-keeps low value body
 write_keeps (WriteData offset bit) size value body level = bit-keeps offset bit body level
-write_keeps (ReadRegister at) size value body level = kept
-write_keeps (ReadScratchpad offset) size value body level = kept
 write_keeps (CopyPattern at same) size value body level =
     either (ltb at 2) kept (either (pattern_same at same value body) (accept-keeps size body) kept)
-write_keeps Copied size value body level = kept
-write_keeps ReadLow size value body level = kept
 write_keeps (ReadHigh low) size value body level = address-keeps low value body
-write_keeps (ReadMemory low high) size value body level = kept
+write_keeps _ size value body level = kept
 
 pub reset-keeps : (s : SramStage) (body : List ℕ) → Keeps body (sram_reset s body)
 unfolding sram_reset
-reset-keeps WriteLow body = kept
-reset-keeps (WriteHigh low) body = kept
 reset-keeps (WriteData offset bit) body = end-keeps bit body
-reset-keeps (ReadRegister at) body = kept
-reset-keeps (ReadScratchpad offset) body = kept
-reset-keeps (CopyPattern at same) body = kept
-reset-keeps Copied body = kept
-reset-keeps ReadLow body = kept
-reset-keeps (ReadHigh low) body = kept
-reset-keeps (ReadMemory low high) body = kept
+reset-keeps _ body = kept

@@ -11,9 +11,8 @@ use lib.Seq.{sets, length-sets, get_or-set_other, set_out, take-suc, take_all, g
 use lib.Dec.{ltb, leb}
 use borrow.Author.Tests.{ltb-true, ltb-false}
 use Rattle.line.specs.declared.SramStage.{SramStage}
-use Rattle.line.specs.declared.SramStage.TheVariants.{WriteLow, WriteHigh, WriteData, ReadRegister, ReadScratchpad}
-use Rattle.line.specs.declared.SramStage.TheVariants.{CopyPattern, Copied, ReadLow, ReadHigh, ReadMemory}
-use Rattle.sram.specs.declared.CopyDone.TheVariants.{NoCopy}
+use Rattle.line.specs.declared.SramStage.TheVariants.{CopyPattern}
+use Rattle.std.specs.Prelude.{None}
 use Rattle.sram.specs.Sram.{ending_offset, target_address, target_offset, pattern_same, copy_length, copy_made}
 use Rattle.sram.specs.Sram.{bytes_copied, pattern_copy, sram_copy}
 
@@ -71,18 +70,10 @@ copy-in-scratchpad size body = choose (ltb (ending_offset body) (target_offset b
 -- no end of a transfer copies more than the scratchpad has
 pub copied-most : (s : SramStage) (size value : ℕ) (body : List ℕ) → bytes_copied (sram_copy s size value body) ≤ 32
 unfolding sram_copy bytes_copied pattern_copy
-copied-most WriteLow size value body = omega arith
-copied-most (WriteHigh low) size value body = omega arith
-copied-most (WriteData offset bit) size value body = omega arith
-copied-most (ReadRegister at) size value body = omega arith
-copied-most (ReadScratchpad offset) size value body = omega arith
 copied-most (CopyPattern at same) size value body = choose (ltb at 2) (pattern_same at same value body)
   where
-    choose : (t u : Bool) → bytes_copied (cond t NoCopy (cond u (copy_made size body) NoCopy)) ≤ 32
+    choose : (t u : Bool) → bytes_copied (cond t None (cond u (copy_made size body) None)) ≤ 32
     choose true u = omega arith
     choose false true = omega (arith, copy-in-scratchpad size body)
     choose false false = omega arith
-copied-most Copied size value body = omega arith
-copied-most ReadLow size value body = omega arith
-copied-most (ReadHigh low) size value body = omega arith
-copied-most (ReadMemory low high) size value body = omega arith
+copied-most _ size value body = omega arith

@@ -3,7 +3,7 @@
 -- did. The memory has `size` bytes. A device that sends ones until a reset is waiting. These definitions do not test
 -- the numbers of a stage: the crate `device` sees to it that they are in range and that the body has its kind's size.
 use Rattle.std.specs.Prelude.{ℕ, ◌+◌, ◌-◌, ◌*◌, ◌/◌, ◌%◌, Bool, true, cond, not, ◌&&◌, ◌||◌, List, get_or, set, take}
-use Rattle.std.specs.Prelude.{drop, ltb, leb, eqb}
+use Rattle.std.specs.Prelude.{drop, ltb, leb, eqb, Option, Some, None}
 use Rattle.std.proofs.lemmas.List.Edits.{sets}
 use Rattle.bits.specs.Bit.{bit_at, with_bit, put_bit}
 use Rattle.kind.specs.Kind.{ta1, ta2, es, scratchpad, memory}
@@ -16,8 +16,6 @@ use Rattle.line.specs.declared.Stage.TheVariants.{Memory}
 use Rattle.line.specs.declared.Transfer.{Transfer}
 use Rattle.line.specs.Transfers.{waiting, sending, listening, listening_once, under_way}
 use Rattle.sram.specs.declared.Written.{Written}
-use Rattle.sram.specs.declared.CopyDone.{CopyDone}
-use Rattle.sram.specs.declared.CopyDone.TheVariants.{NoCopy, Made}
 
 abbrev pub in_sram : SramStage → Stage
 in_sram s = Memory (Sram s)
@@ -139,13 +137,13 @@ copy_to_memory size body = sets body (memory + target_address body) (copy_bytes 
 abbrev pub copy_writes : ℕ → List ℕ → Written
 copy_writes size body = record { address = target_address body; bytes = copy_length size body }
 
-abbrev pub copy_made : ℕ → List ℕ → CopyDone
-copy_made size body = Made (target_address body) (copy_length size body)
+abbrev pub copy_made : ℕ → List ℕ → Option Written
+copy_made size body = Some (copy_writes size body)
 
 -- No copy and a copy of nothing are different answers, of which neither counts any byte.
-unfoldable pub bytes_copied : CopyDone → ℕ
-bytes_copied NoCopy = 0
-bytes_copied (Made address bytes) = bytes
+unfoldable pub bytes_copied : Option Written → ℕ
+bytes_copied None = 0
+bytes_copied (Some written) = written.bytes
 
 -- A pattern that is equal to the registers sets AA, also where no byte is written.
 unfoldable pub accept_copy : ℕ → List ℕ → List ℕ
@@ -155,8 +153,8 @@ unfoldable pub pattern_write : ℕ → Bool → ℕ → List ℕ → List ℕ
 pattern_write at same size body = cond (ltb at 2) body (cond same (accept_copy size body) body)
 
 -- A copy is made, and told, with the last byte of a pattern that is equal to the registers.
-unfoldable pub pattern_copy : ℕ → Bool → ℕ → List ℕ → CopyDone
-pattern_copy at same size body = cond (ltb at 2) NoCopy (cond same (copy_made size body) NoCopy)
+unfoldable pub pattern_copy : ℕ → Bool → ℕ → List ℕ → Option Written
+pattern_copy at same size body = cond (ltb at 2) None (cond same (copy_made size body) None)
 
 -- ---- F0h read memory: two address bytes, then the memory from there, and past its end ones
 
@@ -210,17 +208,17 @@ sram_write (ReadMemory low high) size value body level = body
 
 -- When the transfer of a stage ends, in which `value` was received, this is what a copy did. Only the end of a copy's
 -- pattern makes one.
-unfoldable pub sram_copy : SramStage → ℕ → ℕ → List ℕ → CopyDone
-sram_copy WriteLow size value body = NoCopy
-sram_copy (WriteHigh low) size value body = NoCopy
-sram_copy (WriteData offset bit) size value body = NoCopy
-sram_copy (ReadRegister at) size value body = NoCopy
-sram_copy (ReadScratchpad offset) size value body = NoCopy
+unfoldable pub sram_copy : SramStage → ℕ → ℕ → List ℕ → Option Written
+sram_copy WriteLow size value body = None
+sram_copy (WriteHigh low) size value body = None
+sram_copy (WriteData offset bit) size value body = None
+sram_copy (ReadRegister at) size value body = None
+sram_copy (ReadScratchpad offset) size value body = None
 sram_copy (CopyPattern at same) size value body = pattern_copy at (pattern_same at same value body) size body
-sram_copy Copied size value body = NoCopy
-sram_copy ReadLow size value body = NoCopy
-sram_copy (ReadHigh low) size value body = NoCopy
-sram_copy (ReadMemory low high) size value body = NoCopy
+sram_copy Copied size value body = None
+sram_copy ReadLow size value body = None
+sram_copy (ReadHigh low) size value body = None
+sram_copy (ReadMemory low high) size value body = None
 
 -- This is the body after a reset, which changes it only where it cuts off a data byte.
 unfoldable pub sram_reset : SramStage → List ℕ → List ℕ

@@ -1,15 +1,18 @@
 -- Where a run is not refused, the numbers that the loop below `probe_looked` writes are those that `specs/Looked.antt`
 -- says; and an image that is not refused is no longer than the copy that is made of it. Assumes nothing.
-use Prim.Native.Nat.{ℕ, zero, suc, ◌+◌, ◌-◌, ◌≤◌}
+use Prim.Native.Nat.{ℕ, zero, suc, ◌+◌, ◌-◌, ◌<◌, ◌≤◌}
 use mathlib.Core.Path.{◌≡◌, refl, sym, ap, ◌∙◌}
-use mathlib.Core.Bool.{Bool, true, false, cond}
 use mathlib.Core.List.{List, [], ◌∷◌, ◌++◌}
 use native.Mathlib.Omega.{arith}
 use lib.ListN.{length, get_or, set, take, drop, replicate, length-set, length-replicate, replicate-append-replicate}
-use lib.Seq.{sets, length-sets, sets-eq, take_at, length-take-le, set_at, take-suc, drop-cons, append_snoc, take-length}
-use lib.Dec.{eqb}
+use Rattle.std.proofs.Common.{min}
+use lib.ListN.{take-append-drop, length-drop}
+use lib.Seq.{set_out, sets, length-sets, sets-eq, take_at, length-take-le, set_at, take-suc, drop-cons, append_snoc, take-length}
 use Rattle.image.specs.Image.{count_of}
 use Rattle.image.specs.Refusal.{image_refusal}
+use Rattle.image.specs.declared.Refusal.{Refusal}
+use Rattle.image.specs.declared.Refusal.TheVariants.{MalformedImage, MisplacedBody, WrongCode, EqualCodes, BadTrace, NoFirstReset, BadPulse, NoRoom}
+use Rattle.image.specs.Refusal.{refusal_number}
 use Rattle.image.proofs.Accepted.{Known, accepted-known}
 use Rattle.device.specs.declared.LineState.{LineState}
 use Rattle.device.specs.Device.{waiting_state}
@@ -33,19 +36,49 @@ use Rattle.test_exports.specs.Loops.{number_for, number_of, numbers}
 pub image-most : (image : List ℕ) → image_refusal image ≡ 0 → length image ≤ 65535
 image-most image e = (accepted-known image e).short
 
+-- stores of one part after another, and stores past the end
+sets-append : (xs ys l : List ℕ) (i : ℕ) → sets l i (xs ++ ys) ≡ sets (sets l i xs) (i + length xs) ys
+sets-append [] ys l i = let e : i ≡ i + 0 = omega arith in ap (λ (k : ℕ). sets l k ys) e
+sets-append (x ∷ xs) ys l i =
+    let e : suc i + length xs ≡ i + suc (length xs) = omega arith in
+    sets-append xs ys (set l i x) (suc i) ∙ ap (λ (k : ℕ). sets (sets (set l i x) (suc i) xs) k ys) e
+
+sets-past : (ys l : List ℕ) (i : ℕ) → (0 < length ys → length l ≤ i) → sets l i ys ≡ l
+sets-past [] l i h = refl
+sets-past (y ∷ ys) l i h =
+    let past : length l ≤ i = h (omega arith) in
+    ap (λ (k : List ℕ). sets k (suc i) ys) (set_out l i y past) ∙ sets-past ys l (suc i) (λ _. omega (arith, past))
+
+-- a part goes to the front as far as there is room
+pub sets_front : (part into : List ℕ) (n : ℕ) → n ≡ min (length part) (length into)
+    → take n part ++ drop n into ≡ sets into 0 part
+sets_front part into n e =
+    let few : n ≤ length part = omega (arith, e) in
+    let room : n ≤ length into = omega (arith, e) in
+    let front : List ℕ = take n part in
+    let taken : 0 + length front ≡ n = omega (arith, length-take-le n part few) in
+    let put : sets into 0 front ≡ front ++ drop n into =
+    sets-eq front into 0 (omega (arith, taken, room)) ∙ ap (λ (k : ℕ). front ++ drop k into) taken in
+    let rest : sets (sets into 0 front) n (drop n part) ≡ sets into 0 front =
+    sets-past (drop n part) (sets into 0 front) n (λ some. omega (arith, e, some, length-drop n part, length-sets into 0 front)) in
+    sym (ap (sets into 0) (sym (take-append-drop n part))
+    ∙ sets-append front (drop n part) into 0
+    ∙ ap (λ (k : ℕ). sets (sets into 0 front) k (drop n part)) taken
+    ∙ rest ∙ put)
+
 -- the copy: the front of so many bytes, where it has room there
 pub copy-length : (image : List ℕ) (m : ℕ) → length (sets (replicate m 0) 0 image) ≡ m
 copy-length image m = length-sets (replicate m 0) 0 image ∙ length-replicate m 0
 
 pub copy_holds : (image : List ℕ) (m : ℕ) → length image ≤ m
-    → take (length image - 0) (drop 0 (sets (replicate m 0) 0 image)) ≡ image
+    → take (length image) (sets (replicate m 0) 0 image) ≡ image
 copy_holds image m h =
     let zeros : List ℕ = replicate m 0 in
     let size : length zeros ≡ m = length-replicate m 0 in
     let rest : List ℕ = drop (0 + length image) zeros in
-    ap (λ (l : List ℕ). take (length image - 0) l)
+    ap (λ (l : List ℕ). take (length image) l)
     (sets-eq image zeros 0 (omega (arith, h, size)))
-    ∙ take_at image rest (length image - 0) (omega arith)
+    ∙ take_at image rest (length image) refl
 
 -- ---- the numbers of a trace
 
@@ -74,17 +107,6 @@ number_is : (byte : ℕ) (ds : List Device) → length ds ≤ 64
     → number_of byte (looked_at (event_of byte) ds) ≡ looked_byte (event_of byte) ds
 unfolding number_of
 number_is byte ds few = number-for (event_of byte) ds few
-
--- a byte that is none of the four slots
-pub no_slot : (byte looked : ℕ) → eqb byte 0 ≡ false → eqb byte 1 ≡ false → eqb byte 4 ≡ false → eqb byte 5 ≡ false
-    → number_of byte looked ≡ 255
-unfolding number_of number_for event_of
-no_slot byte looked a b c d = rw (a, b, c, d) (choose (eqb byte 2) (eqb byte 6))
-  where
-    choose : (x y : Bool) → number_for (cond x Reset (cond y OverdriveReset Pulse)) looked ≡ 255
-    choose true y = refl
-    choose false true = refl
-    choose false false = refl
 
 pub numbers-length : (trace : List ℕ) (n k : ℕ) (s : RunState) → length (numbers trace n k s) ≡ length s.answers
 unfolding numbers
@@ -162,8 +184,14 @@ numbers-shown image trace looked e =
     ∙ ap (λ (t : List ℕ). looked_in t ds ++ drop (length trace) looked) (take-length trace)
 
 -- what is refused changes nothing
-pub after-refused : (number : ℕ) (image trace looked : List ℕ) → (number ≡ 0 → ⊥)
-    → looked ≡ looked_after number image trace looked
-unfolding looked_after
-after-refused zero image trace looked h = absurd (h refl)
-after-refused (suc number) image trace looked h = refl
+pub after-refused : (refusal : Refusal) (image trace looked : List ℕ)
+    → looked ≡ looked_after (refusal_number refusal) image trace looked
+unfolding looked_after refusal_number
+after-refused MalformedImage image trace looked = refl
+after-refused MisplacedBody image trace looked = refl
+after-refused WrongCode image trace looked = refl
+after-refused EqualCodes image trace looked = refl
+after-refused BadTrace image trace looked = refl
+after-refused NoFirstReset image trace looked = refl
+after-refused BadPulse image trace looked = refl
+after-refused NoRoom image trace looked = refl

@@ -15,7 +15,7 @@ ghost use Rattle.test_exports.specs.Outcome.{outcome_byte};
 ghost use Rattle.test_exports.specs.Looked.{looked_after};
 ghost use Rattle.test_exports.specs.Loops.{number_of, numbered_run};
 
-use bus::EventResult;
+use bus::Event;
 use device::LineState;
 use image::ACCEPTED;
 use master::{End, Outcome};
@@ -33,6 +33,8 @@ const MOST_DEVICES: usize = 64;
 const MOST_BYTES: usize = 65535;
 
 // The numbers of the master's ends are document 01's.
+// As it is: only the tests' C program is told them, and `End` is another crate's, which can have no `From` here.
+#[tactic(auto, unfolding(master::specs::Master::end_number))]
 fn end_number(end: End) -> u32
     ensures { result ≡ end_number end }
 {
@@ -46,6 +48,8 @@ fn end_number(end: End) -> u32
 
 // The number of an outcome is that of the master's end, or 7 where there is too little room, or 255 where the master
 // would go on.
+// As it is: only the tests' C program is told it, and `Outcome` is another crate's, which can have no `From` here.
+#[tactic(auto, unfolding(crate::specs::Outcome::outcome_byte))]
 fn outcome_number(outcome: Outcome) -> u32
     ensures { result ≡ outcome_byte outcome }
 {
@@ -75,6 +79,7 @@ pub extern "C" fn probe_drive(
 {
     let driven = master::drive(levels, trace, codes);
     let outcome = driven.outcome;
+    // As it is: a C program is told a u64, here and below, and no From goes from usize to it.
     *events = driven.events as u64;
     *completed = driven.codes as u64;
     outcome_number(outcome)
@@ -84,11 +89,8 @@ pub extern "C" fn probe_drive(
 fn copy_out(part: &[u8], into: &mut [u8])
     ensures { into.new ≡ sets into.old 0 part.now }
 {
-    let mut i = 0;
-    while i < part.len() {
-        bits::put_byte(into, i, part[i]);
-        i += 1;
-    }
+    let n = part.len().min(into.len());
+    into[..n].copy_from_slice(&part[..n]);
 }
 
 // The bytes still to be read from a DS1982's fields are copied out, and their number is returned.
@@ -109,6 +111,7 @@ pub extern "C" fn probe_remaining<'a>(
     part.len() as u64
 }
 
+// As it is: a number is cut to a byte, which no conversion does but a cast.
 fn low_byte(number: usize) -> u8
     ensures { result ≡ number % 256 }
 {
@@ -117,19 +120,19 @@ fn low_byte(number: usize) -> u8
 
 // This is the number of devices that the level of an event looked at, as a byte; it is 255 for an event that is not a
 // slot.
-fn number_of(byte: u8, res: EventResult) -> u8
-    ensures { result ≡ number_of byte res.looked }
+// As it is: the number goes into a C program's bytes, so that an event that is no slot is 255 there and no None.
+#[tactic(auto, unfolding(crate::specs::Loops::number_of, crate::specs::Loops::number_for))]
+fn number_of(byte: u8, looked: usize) -> u8
+    ensures { result ≡ number_of byte looked }
 {
-    match byte {
-        0 => low_byte(res.looked),
-        1 => low_byte(res.looked),
-        4 => low_byte(res.looked),
-        5 => low_byte(res.looked),
+    match Event::from(byte) {
+        Event::Slot(_) | Event::OverdriveSlot(_) => low_byte(looked),
         _ => NO_SLOT,
     }
 }
 
 // This writes the number for every event of a trace on n devices, which are stepped as in a run.
+// As it is: `numbered_run` says what the first k numbers of all are, so that the loop has k, where a zip has none.
 fn number_events(
     image: &mut [u8],
     trace: &[u8],
@@ -142,17 +145,15 @@ fn number_events(
         ≡ numbered_run trace.now n
         (run_state image.old looked.old lines.old) }
 {
-    let mut k: usize = 0;
-    while k < trace.len() {
-        let byte = trace[k];
-        let result = bus::step(image, lines, n, byte);
-        looked[k] = number_of(byte, result);
-        k = k + 1;
+    for (k, byte) in trace.iter().enumerate() {
+        let result = bus::step(image, lines, n, *byte);
+        looked[k] = number_of(*byte, result.looked);
     }
 }
 
 // This writes the number for every event of a trace, with 64 line states of its own, for devices that wait at the
 // start.
+// As it is: n stands beside the line states, as `bus::step` has it, whose definition keeps those from n on.
 fn number_own(image: &mut [u8], trace: &[u8], looked: &mut [u8], n: usize)
     requires { (length trace.now ≤ length looked.old) × (n ≤ 64) }
     ensures { (image.new ≡ (numbered_run trace.now n
@@ -160,8 +161,7 @@ fn number_own(image: &mut [u8], trace: &[u8], looked: &mut [u8], n: usize)
         × (looked.new ≡ (numbered_run trace.now n
         (run_state image.old looked.old (replicate 64 waiting_state))).answers) }
 {
-    let waiting = LineState::waiting();
-    let mut lines = [waiting; 64];
+    let mut lines = [LineState::waiting(); MOST_DEVICES];
     number_events(image, trace, looked, &mut lines, n);
 }
 
@@ -175,7 +175,7 @@ fn number_copy(image: &[u8], trace: &[u8], looked: &mut [u8])
     let end = image.len();
     let mut own = [0u8; MOST_BYTES];
     copy_out(image, &mut own);
-    number_own(&mut own[0..end], trace, looked, n);
+    number_own(&mut own[..end], trace, looked, n);
 }
 
 // A byte is written for each event of a run: how many devices a slot's level looks at, or 255 for an event that is not
@@ -185,9 +185,11 @@ pub extern "C" fn probe_looked(image: &[u8], trace: &[u8], looked: &mut [u8]) ->
     ensures { (result ≡ run_refusal image.now trace.now (length looked.old) 64)
         × (looked.new ≡ looked_after result image.now trace.now looked.old) }
 {
-    let number = bus::refusal(image, trace, looked.len(), MOST_DEVICES);
-    if number == ACCEPTED {
-        number_copy(image, trace, looked);
+    match bus::check(image, trace, looked.len(), MOST_DEVICES) {
+        Ok(()) => {
+            number_copy(image, trace, looked);
+            ACCEPTED
+        }
+        Err(refusal) => u32::from(refusal),
     }
-    number
 }

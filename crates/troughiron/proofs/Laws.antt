@@ -2,31 +2,37 @@
 use Prim.Native.Nat.{ℕ}
 use mathlib.Core.Path.{◌≡◌, sym, ap, ◌∙◌}
 use mathlib.Core.List.{List}
+use Rattle.std.specs.Prelude.{Ok, Err}
+use Rattle.image.specs.declared.Refusal.{Refusal}
+use Rattle.image.specs.Refusal.{refusal_number}
 use Rattle.image.proofs.Counted.{counted-now, counted-not}
-use Rattle.bus.specs.declared.RunResult.{RunResult}
-use Rattle.bus.specs.Run.{RunOutcome}
+use Rattle.bus.specs.Run.{RunOutcome, RunResult, run_told}
+use Rattle.bus.proofs.Laws.{refusal-some}
 use Rattle.troughiron.specs.Host.{OwnRunLeaves, HostRunLeaves}
 
-module _ (left : RunOutcome) (copied : ℕ) (result : RunResult) (image answers : List ℕ)
-    (leaves : OwnRunLeaves left result image answers) where
-  same_number : left.result.number ≡ result.number
-  same_number = ap (λ (r : RunResult). r.number) (sym leaves.result-is)
-
+module _ (left : RunOutcome) (copied : ℕ) (image answers : List ℕ) where
   -- not refused: the bytes copied are written
-  pub sees-copied : result.number ≡ 0 → HostRunLeaves left copied result.number image answers result.copied
-  sees-copied e = record {
-    number_is = sym same_number;
-    image-is = leaves.image-is;
-    answers-are = leaves.answers-are;
-    copied_is = ap (λ (r : RunResult). r.copied) leaves.result-is
-        ∙ sym (counted-now left.result.number left.result.copied copied (same_number ∙ e));
-  }
+  pub sees-copied : (bytes : ℕ) → OwnRunLeaves left (run_told (Ok bytes)) image answers → HostRunLeaves left copied 0 image answers bytes
+  unfolding run_told
+  sees-copied bytes leaves =
+      let number : left.result.number ≡ 0 = ap (λ (r : RunResult). r.number) (sym leaves.result-is) in
+      record {
+        number_is = sym number;
+        image-is = leaves.image-is;
+        answers-are = leaves.answers-are;
+        copied_is = ap (λ (r : RunResult). r.copied) leaves.result-is
+            ∙ sym (counted-now left.result.number left.result.copied copied number);
+      }
 
   -- refused: they are not
-  pub sees-refused : (result.number ≡ 0 → ⊥) → HostRunLeaves left copied result.number image answers copied
-  sees-refused h = record {
-    number_is = sym same_number;
-    image-is = leaves.image-is;
-    answers-are = leaves.answers-are;
-    copied_is = sym (counted-not left.result.number left.result.copied copied (λ z. h (sym same_number ∙ z)));
-  }
+  pub sees-refused : (refusal : Refusal) → OwnRunLeaves left (run_told (Err refusal)) image answers
+      → HostRunLeaves left copied (refusal_number refusal) image answers copied
+  unfolding run_told
+  sees-refused refusal leaves =
+      let number : left.result.number ≡ refusal_number refusal = ap (λ (r : RunResult). r.number) (sym leaves.result-is) in
+      record {
+        number_is = sym number;
+        image-is = leaves.image-is;
+        answers-are = leaves.answers-are;
+        copied_is = sym (counted-not left.result.number left.result.copied copied (λ z. refusal-some refusal (sym number ∙ z)));
+      }

@@ -3,8 +3,7 @@
 use Rattle.std.specs.Prelude.{ℕ, ◌≡◌, List, replicate}
 use Rattle.device.specs.Device.{waiting_state}
 use Rattle.image.specs.Counted.{count_after}
-use Rattle.bus.specs.declared.RunResult.{RunResult}
-use Rattle.bus.specs.Run.{RunOutcome, run_of}
+use Rattle.bus.specs.Run.{RunOutcome, RunResult, run_of}
 
 -- Of a run without its line states, what it returns, the image and the answers are left.
 pub record OwnRunLeaves (left : RunOutcome) (result : RunResult) (image answers : List ℕ) : Type 0 where

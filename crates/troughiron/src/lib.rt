@@ -4,19 +4,18 @@
 
 ghost use Rattle.std.specs.Prelude.{◌≡◌, cond};
 ghost use Rattle.bits.specs.Crc.{registration_check};
+ghost use Rattle.bus.specs.Run.{run_told};
 ghost use Rattle.troughiron.specs.Host.{OwnRunLeaves, HostRunLeaves, host_run};
 
-use bus::RunResult;
 use device::LineState;
-use image::ACCEPTED;
+use image::{ACCEPTED, Refusal};
 
 // The run has 64 line states of its own, as an image has at most 64 devices.
-fn run_own(image: &mut [u8], trace: &[u8], answers: &mut [u8]) -> RunResult
-    ensures { OwnRunLeaves (host_run image.old trace.now answers.old) result
+fn run_own(image: &mut [u8], trace: &[u8], answers: &mut [u8]) -> Result<u64, Refusal>
+    ensures { OwnRunLeaves (host_run image.old trace.now answers.old) (run_told result)
         image.new answers.new }
 {
-    let waiting = LineState::waiting();
-    let mut lines = [waiting; 64];
+    let mut lines = [LineState::waiting(); 64];
     bus::run(image, trace, answers, &mut lines)
 }
 
@@ -31,12 +30,13 @@ pub extern "C" fn troughiron_run(
     ensures { HostRunLeaves (host_run image.old trace.now answers.old)
         copied.old result image.new answers.new copied.new }
 {
-    let result = run_own(image, trace, answers);
-    let refusal = result.number;
-    if refusal == ACCEPTED {
-        *copied = result.copied;
+    match run_own(image, trace, answers) {
+        Ok(bytes) => {
+            *copied = bytes;
+            ACCEPTED
+        }
+        Err(refusal) => u32::from(refusal),
     }
-    refusal
 }
 
 // The registration check returns 1 for yes and 0 for no.
@@ -44,5 +44,5 @@ pub extern "C" fn troughiron_run(
 pub extern "C" fn troughiron_registration_check(code: &[u8]) -> u32
     ensures { result ≡ cond (registration_check code.now) 1 0 }
 {
-    if bits::registration_check(code) { 1 } else { 0 }
+    u32::from(bits::registration_check(code))
 }

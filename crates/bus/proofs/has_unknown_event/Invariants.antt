@@ -1,15 +1,8 @@
-use Prim.Native.Nat.{◌≤◌, ◌-◌}
-use mathlib.Core.Path.{◌≡◌}
-use mathlib.Core.Bool.{◌||◌}
-use lib.ListN.{length, drop}
-use lib.Dec.{ltb}
+use Rattle.std.proofs.Common.{◌≡◌, ◌||◌, drop, ltb}
 use Rattle.bus.specs.Refusal.{some_byte}
 use Rattle.bus.proofs.has_unknown_event.Given as goal
 
-abbrev pub invariant-loop-k : goal.invariant-loop-k
-invariant-loop-k l =
-    (l.k ≤ length l.trace) × ((l.found || some_byte (λ byte. ltb 6 byte) (drop l.k l.trace)) ≡ some_byte (λ byte. ltb 6 byte) l.trace)
-
-abbrev pub decreases-loop-k : goal.decreases-loop-k
-decreases-loop-k l =
-    length l.trace - l.k
+-- It was found so far or is found in what is left, where it is found in the trace.
+abbrev pub invariant-loop-byte : goal.invariant-loop-byte
+invariant-loop-byte l =
+    (l.found || some_byte (λ byte. ltb 6 byte) (drop l.byte-index l.trace)) ≡ some_byte (λ byte. ltb 6 byte) l.trace

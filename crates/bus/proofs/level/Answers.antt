@@ -10,33 +10,10 @@ pub loop-high-init : goal.loop-high-init
 unfolding high_after
 loop-high-init c = record { in_range = omega arith; so_far = refl }
 
-pub bounds-lines-looked : goal.bounds-lines-looked
-bounds-lines-looked c =
-    (scan_turn _ _ _ _ _ _ _ _ c.fewer-served.ensures c.asked-asked.ensures c.loop-high.invariant.in_range
-    c.loop-high.invariant.so_far c.looks_on.ensures c.loop-high-test.true).1.1
-
-pub offset_bounds-lines-looked : goal.offset_bounds-lines-looked
-offset_bounds-lines-looked c =
-    let h = scan_turn _ _ _ _ _ _ _ _ c.fewer-served.ensures c.asked-asked.ensures c.loop-high.invariant.in_range
-    c.loop-high.invariant.so_far c.looks_on.ensures c.loop-high-test.true in
-    record { fits = omega (arith, h.1.1) }
-
-pub overflow_add-looked : goal.overflow_add-looked
-overflow_add-looked c =
-    let h = scan_turn _ _ _ _ _ _ _ _ c.fewer-served.ensures c.asked-asked.ensures c.loop-high.invariant.in_range
-    c.loop-high.invariant.so_far c.looks_on.ensures c.loop-high-test.true in
-    record { fits = omega (arith, h.1.0, h.1.1) }
-
-pub loop-high-smaller : goal.loop-high-smaller
-loop-high-smaller c =
-    let h = scan_turn _ _ _ _ _ _ _ _ c.fewer-served.ensures c.asked-asked.ensures c.loop-high.invariant.in_range
-    c.loop-high.invariant.so_far c.looks_on.ensures c.loop-high-test.true in
-    omega (arith, h.1.0)
-
 pub loop-high-preserved : goal.loop-high-preserved
 unfolding high_after
 loop-high-preserved c =
-    let h = scan_turn _ _ _ _ _ _ _ _ c.fewer-served.ensures c.asked-asked.ensures c.loop-high.invariant.in_range
+    let h = scan_turn _ _ _ _ _ _ _ _ c.served-served.ensures.fewer c.asked-asked.ensures c.loop-high.invariant.in_range
     c.loop-high.invariant.so_far c.looks_on.ensures c.loop-high-test.true in
     record {
       in_range = omega (arith, h.0);
@@ -47,5 +24,5 @@ loop-high-preserved c =
 pub returns : goal.returns
 returns c =
     c.scan_of.ensures
-    ∙ scan_result _ _ _ _ _ _ _ _ c.fewer-served.ensures c.asked-asked.ensures c.loop-high.invariant.in_range
+    ∙ scan_result _ _ _ _ _ _ _ _ c.served-served.ensures.fewer c.asked-asked.ensures c.loop-high.invariant.in_range
     c.loop-high.invariant.so_far c.looks_on.ensures c.loop-high-test.false

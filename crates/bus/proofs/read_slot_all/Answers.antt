@@ -31,9 +31,9 @@ loop-i-preserved c =
     let few : i + 1 ≤ n = omega arith in
     let next = c.read_slot-after.result in
     let turned = step_done im (slot_byte f) t i c.args.lines.now ls inv.lines _ within next c.read_slot-after.ensures in
-    let j = c.shift_all-next.result in
-    let xs = c.shift_all-next.new.lines in
-    let e = c.shift_all-next.ensures in
+    let j = c.shift_all-i-in-loop-i.result in
+    let xs = c.shift_all-i-in-loop-i.new.lines in
+    let e = c.shift_all-i-in-loop-i.ensures in
     record {
       in_range = pass_few f t n (i + 1) (set ls i next) few j e.0;
       lines = pass_steps im f t n (i + 1) c.args.lines.now (set ls i next) turned j xs e.0 e.1;

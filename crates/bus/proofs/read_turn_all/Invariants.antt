@@ -1,13 +1,7 @@
-use Rattle.std.proofs.Common.{◌≡◌, ◌≤◌, ◌-◌, true}
+use Rattle.std.proofs.Common.{◌≡◌, true}
 use Rattle.bus.proofs.States.{steps}
 use Rattle.bus.proofs.read_turn_all.Given as goal
 
 -- The devices before place i have had their part.
 abbrev pub invariant-loop-i : goal.invariant-loop-i
-invariant-loop-i l = record {
-  in_range : l.i ≤ l.n;
-  lines : l.lines ≡ steps l.image l.byte true l.i l.fn.lines;
-}
-
-abbrev pub decreases-loop-i : goal.decreases-loop-i
-decreases-loop-i l = l.n - l.i
+invariant-loop-i l = l.lines ≡ steps l.image l.byte true l.i l.fn.lines

@@ -5,7 +5,7 @@ use Rattle.bus.proofs.run_events.Goals as goal
 
 pub loop-k-init : goal.loop-k-init
 unfolding run_events_up_to copied_by_events
-loop-k-init c = record { in_range = omega arith; copied = refl; state = refl }
+loop-k-init c = record { copied = refl; state = refl }
 
 pub loop-k-preserved : goal.loop-k-preserved
 loop-k-preserved c =
@@ -20,9 +20,8 @@ loop-k-preserved c =
     let few : n ≤ length ls = omega arith in
     let e = c.step-result.ensures in
     record {
-      in_range = omega arith;
-      copied = event_added trace n k s im answers ls inv.state few c.step-result.result e.0 c.loop-k.copied c.add_event-copied.result
-          inv.copied c.add_event-copied.ensures;
-      state = event_done trace n k s im answers ls inv.state few c.step-result.result e.0 c.step-result.new.image
-          c.step-result.new.lines e.1 e.2;
+      copied = event_added trace n k s im answers ls inv.state few c.step-result.result e.0 c.loop-k.copied c.saturating_add-copied.result
+          inv.copied c.saturating_add-copied.ensures;
+      state = rw c.from.ensures (event_done trace n k s im answers ls inv.state few c.step-result.result e.0 c.step-result.new.image
+          c.step-result.new.lines e.1 e.2);
     }

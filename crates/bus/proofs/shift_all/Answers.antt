@@ -14,8 +14,6 @@ unfolding shifted_from
 loop-i-init c =
     let none : c.args.from - c.args.from ≡ 0 = omega arith in
     record {
-      from_on = omega arith;
-      in_range = omega arith;
       passed = rw none (omega arith);
       lines = rw none refl;
     }
@@ -40,31 +38,27 @@ loop-i-preserved c =
           ∙ ap (λ (s : LineState). line_state (shifted s.transfer t) s.overdrive) (get_or_default ls i _ waiting_state within)
           ∙ sym (pass_on f t state (moved-shifts f state moves on)) in
           record {
-            from_on = omega arith;
-            in_range = omega arith;
-            passed = shift_passes f t c.args.from c.args.n i c.args.lines.now ls inv.from_on inv.passed inv.lines c.loop-i-test.true on;
+            passed = shift_passes f t c.args.from c.args.n i c.args.lines.now ls c.loop-i.auto.i inv.passed inv.lines c.loop-i-test.true on;
             lines = w.lines-is ∙ ap (set ls i) next
-                ∙ shift_lines f t c.args.from c.args.n i c.args.lines.now ls inv.from_on inv.passed inv.lines;
+                ∙ shift_lines f t c.args.from c.args.n i c.args.lines.now ls c.loop-i.auto.i inv.passed inv.lines;
           }
       | else-moves_in w ↦
           let still : moves_in f state ≡ false =
           sym (c.moves_in.ensures ∙ ap (moves_in f) (get_or_default ls i _ waiting_state within)) ∙ w.if-moves_in.false in
           record {
-            from_on = omega arith;
-            in_range = omega arith;
-            passed = shift_passes f t c.args.from c.args.n i c.args.lines.now ls inv.from_on inv.passed inv.lines c.loop-i-test.true
+            passed = shift_passes f t c.args.from c.args.n i c.args.lines.now ls c.loop-i.auto.i inv.passed inv.lines c.loop-i-test.true
                 (still-whole f state still);
             lines = w.lines-is
                 ∙ sym (ap (set ls i) (pass-still f t state (still_kept f state still)) ∙ set-get_or ls i waiting_state)
-                ∙ shift_lines f t c.args.from c.args.n i c.args.lines.now ls inv.from_on inv.passed inv.lines;
+                ∙ shift_lines f t c.args.from c.args.n i c.args.lines.now ls c.loop-i.auto.i inv.passed inv.lines;
           }
     ]
 
-pub returns-after-loop-i : goal.returns-after-loop-i
-returns-after-loop-i c =
+pub returns : goal.returns
+returns c =
     let e = shift_ends c.args.overdrive c.args.level c.args.from c.args.n c.loop-i.i c.args.lines.now c.loop-i.lines
-    c.loop-i.invariant.from_on c.loop-i.invariant.passed c.loop-i.invariant.lines c.loop-i.invariant.in_range c.loop-i-test.false in
-    (omega (arith, e, c.loop-i.invariant.from_on), rw e c.loop-i.invariant.lines)
+    c.loop-i.auto.i c.loop-i.invariant.passed c.loop-i.invariant.lines (omega arith) c.loop-i-test.false in
+    (omega (arith, e, c.loop-i.auto.i), rw e c.loop-i.invariant.lines)
 
 pub returns-then-ends_in : goal.returns-then-ends_in
 returns-then-ends_in c =
@@ -75,5 +69,5 @@ returns-then-ends_in c =
     let within : i < length ls = omega arith in
     let stops : ends_in f (line_at ls i) ≡ true =
     sym (c.ends_in.ensures ∙ ap (ends_in f) (get_or_default ls i _ waiting_state within)) ∙ c.if-ends_in.true in
-    let e = shift_stops f c.args.level c.args.from c.args.n i c.args.lines.now ls inv.from_on inv.passed inv.lines c.loop-i-test.true stops in
-    (omega (arith, e, inv.from_on), rw e inv.lines)
+    let e = shift_stops f c.args.level c.args.from c.args.n i c.args.lines.now ls c.loop-i.auto.i inv.passed inv.lines c.loop-i-test.true stops in
+    (omega (arith, e, c.loop-i.auto.i), rw e inv.lines)

@@ -1,5 +1,4 @@
 use mathlib.Core.Path.{◌∙◌}
-use native.Mathlib.Omega.{arith}
 use borrow.Rule.Slice.PartMut.{Post-is}
 use Rattle.device.specs.Device.{bytes_in_slot_as_is}
 use Rattle.bus.specs.Loops.{slot_turn, image_with_body}
@@ -18,26 +17,11 @@ returns-then-state-overdrive c =
       unheard-slot-image a.state a.overdrive deaf a.image.now a.i a.level,
     )
 
-pub slice_bounds-slot_as_is-count : goal.slice_bounds-slot_as_is-count
-slice_bounds-slot_as_is-count c =
-    let inside = inside_of _ _ _ c.place_of-place.ensures in
-    omega arith
-
-pub slice_bounds-slot_as_is-start : goal.slice_bounds-slot_as_is-start
-slice_bounds-slot_as_is-start c =
-    let inside = inside_of _ _ _ c.place_of-place.ensures in
-    omega arith
-
-pub slice_bounds-slot_as_is-end : goal.slice_bounds-slot_as_is-end
-slice_bounds-slot_as_is-end c =
-    let inside = inside_of _ _ _ c.place_of-place.ensures in
-    omega arith
-
 pub returns : goal.returns
 unfolding image_with_body bytes_in_slot_as_is
 returns c =
     let w = c.slot_as_is-stepped in
-    let p = c.place_of-place in
+    let p = c.place_of-kind in
     let a = c.args in
     let heard = own-heard a.state a.overdrive c.if-state-overdrive.false in
     let busy = ends-busy a.overdrive a.state c.requires heard in
@@ -48,7 +32,8 @@ returns c =
         heard-slot-copied a.state a.overdrive heard busy a.image.now a.i a.level,
         own.0,
         own.1,
-        c.bytes-copied.ensures,
+        c.from-copied.ensures,
+        c.bytes.ensures,
         w.ensures.0,
       ),
       rw (

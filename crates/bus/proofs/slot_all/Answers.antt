@@ -34,14 +34,14 @@ loop-i-preserved c =
     let few : i + 1 ≤ n = omega arith in
     let after = c.slot-after.ensures in
     let left = c.slot-after.new.image in
-    let next = c.state_after.result in
+    let next = c.slot-after.result.next in
     let turned = turn_done v t i s im ls inv.state _ within left next after.1
-    (c.state_after.ensures ∙ ap (λ (u : SlotTurn). u.next) after.0) in
-    let summed = turn_added v t i s im ls inv.state _ within c.loop-i.copied c.add_turn-copied.result c.slot-after.result.copied
-    inv.copied (ap (λ (u : SlotTurn). u.copied) after.0) c.add_turn-copied.ensures in
-    let j = c.shift_all-next.result in
-    let xs = c.shift_all-next.new.lines in
-    let e = c.shift_all-next.ensures in
+    (ap (λ (u : SlotTurn). u.next) after.0) in
+    let summed = turn_added v t i s im ls inv.state _ within c.loop-i.copied c.saturating_add-copied.result c.slot-after.result.copied
+    inv.copied (ap (λ (u : SlotTurn). u.copied) after.0) c.saturating_add-copied.ensures in
+    let j = c.shift_all-i-in-loop-i.result in
+    let xs = c.shift_all-i-in-loop-i.new.lines in
+    let e = c.shift_all-i-in-loop-i.ensures in
     record {
       in_range = pass_few f t n (i + 1) (set ls i next) few j e.0;
       copied = summed ∙ sym (pass_copied_turns f t n (i + 1) s left (set ls i next) turned j e.0);

@@ -1,11 +1,7 @@
-use Rattle.std.proofs.Common.{◌≡◌, Bool, ℕ, length, ap, ◌∙◌, arith}
+use Rattle.std.proofs.Common.{◌≡◌, Bool, ℕ, length, ap, ◌∙◌}
 use Rattle.bus.specs.declared.Scan.{Scan}
 use Rattle.bus.specs.Loops.{level_on, scan_on, copied_on, step_on, event_result, BusState, bus_state, turns_up_to, copied_up_to, fewer_of}
-use Rattle.bus.proofs.Laws.{fewer-second}
 use Rattle.bus.proofs.step.Goals as goal
-
-pub step_event-copied-requires : goal.step_event-copied-requires
-step_event-copied-requires c = omega (arith, c.fewer-served.ensures, fewer-second c.args.n (length c.args.lines.now))
 
 pub returns : goal.returns
 unfolding step_on scan_on copied_on
@@ -14,18 +10,17 @@ returns c =
     let n = c.args.n in
     let ls = c.args.lines.now in
     let s = bus_state c.args.image.now ls in
-    let served : c.fewer-served.result ≡ fewer_of n (length ls) = c.fewer-served.ensures in
-    let level : c.level-scan.result.level ≡ level_on ls n v = ap (λ (u : Scan). u.level) c.level-scan.ensures in
+    let served : c.served-served.result ≡ fewer_of n (length ls) = c.served-served.ensures.fewer in
+    let level : c.level-level.result.level ≡ level_on ls n v = ap (λ (u : Scan). u.level) c.level-level.ensures in
     let copied : c.step_event-copied.result ≡ copied_on n v s =
     c.step_event-copied.ensures.0
-    ∙ ap (λ (b : Bool). copied_up_to v b c.fewer-served.result s) level
+    ∙ ap (λ (b : Bool). copied_up_to v b c.served-served.result s) level
     ∙ ap (λ (m : ℕ). copied_up_to v (level_on ls n v) m s) served in
     let left : bus_state c.step_event-copied.new.image c.step_event-copied.new.lines ≡ step_on n v s =
     c.step_event-copied.ensures.1
-    ∙ ap (λ (b : Bool). turns_up_to v b c.fewer-served.result s) level
+    ∙ ap (λ (b : Bool). turns_up_to v b c.served-served.result s) level
     ∙ ap (λ (m : ℕ). turns_up_to v (level_on ls n v) m s) served in (
-      c.event_result.ensures
-          ∙ ap (λ (u : Scan). event_result u c.step_event-copied.result) c.level-scan.ensures
+      ap (λ (u : Scan). event_result u c.step_event-copied.result) c.level-level.ensures
           ∙ ap (λ (m : ℕ). event_result (scan_on ls n v) m) copied,
       ap (λ (u : BusState). u.image) left,
       ap (λ (u : BusState). u.lines) left,

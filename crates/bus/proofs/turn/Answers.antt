@@ -1,28 +1,38 @@
-use mathlib.Core.Path.{ap}
-use mathlib.Core.Bool.{true}
-use Rattle.bus.specs.declared.Event.TheVariants.{Reset, Pulse, OverdriveReset}
-use Rattle.bus.specs.Bus.{event_of}
-use Rattle.bus.specs.Loops.{heard_state_as_is, heard_body_as_is, heard_copied_as_is, device_at_place, device_in, kind_in, body_in}
-use Rattle.bus.proofs.Idle.{other-pulse, heard-turn}
+use borrow.Rule.Slice.PartMut.{Post-is}
+use Rattle.bus.specs.Loops.{heard_state_as_is, heard_body_as_is, device_in, device_at_place, image_with_body}
+use Rattle.bus.proofs.Idle.{other-pulse}
+use Rattle.bus.proofs.Laws.{inside_of}
 use Rattle.bus.proofs.turn.Goals as goal
 
-pub returns-in-2 : goal.returns-in-2
-unfolding event_of heard_state_as_is heard_body_as_is heard_copied_as_is device_in device_at_place kind_in body_in
-returns-in-2 c =
-    let a = c.args in
-    heard-turn a.byte c.requires.0 a.image.now a.i a.state c.requires.1 true Reset
-    (ap event_of c.in-2.is) _ _ c.heard_reset.ensures
+pub returns-in-Reset : goal.returns-in-Reset
+unfolding heard_state_as_is heard_body_as_is device_in device_at_place image_with_body
+returns-in-Reset c =
+    let n = c.reset_as_is in
+    let p = c.place_of-start in
+    let inside = inside_of _ _ _ p.ensures in
+    rw c.in-Reset.is (
+      n.ensures.0,
+      rw (← p.ensures, Post-is p.result.start p.result.end c.args.image.now inside.rising, n.ensures.1),
+    )
 
-pub returns-in-6 : goal.returns-in-6
-unfolding event_of heard_state_as_is heard_body_as_is heard_copied_as_is device_in device_at_place kind_in body_in
-returns-in-6 c =
-    let a = c.args in
-    heard-turn a.byte c.requires.0 a.image.now a.i a.state c.requires.1 true OverdriveReset
-    (ap event_of c.in-6.is) _ _ c.heard_reset-in-6.ensures
+pub returns-in-OverdriveReset : goal.returns-in-OverdriveReset
+unfolding heard_state_as_is heard_body_as_is device_in device_at_place image_with_body
+returns-in-OverdriveReset c =
+    let n = c.reset_as_is-in-OverdriveReset in
+    let p = c.place_of-start in
+    let inside = inside_of _ _ _ p.ensures in
+    rw c.in-OverdriveReset.is (
+      n.ensures.0,
+      rw (← p.ensures, Post-is p.result.start p.result.end c.args.image.now inside.rising, n.ensures.1),
+    )
 
 pub returns-in_default : goal.returns-in_default
-unfolding heard_state_as_is heard_body_as_is heard_copied_as_is device_in device_at_place kind_in body_in
+unfolding heard_state_as_is heard_body_as_is device_in device_at_place image_with_body
 returns-in_default c =
-    let a = c.args in
-    heard-turn a.byte c.requires.0 a.image.now a.i a.state c.requires.1 true Pulse
-    (other-pulse a.byte c.requires.0 c.in_default.in_default-own.rest.0.1 c.in_default.in_default-own.rest.1) _ _ c.heard_pulse.ensures
+    let n = c.pulse_as_is in
+    let p = c.place_of-start in
+    let inside = inside_of _ _ _ p.ensures in
+    rw (other-pulse c.args.event c.requires c.in_default.not-Reset c.in_default.not-OverdriveReset) (
+      rw (← p.ensures) n.ensures.0,
+      rw (← p.ensures, Post-is p.result.start p.result.end c.args.image.now inside.rising, n.ensures.1),
+    )

@@ -1,29 +1,28 @@
-use mathlib.Core.Path.{ap, ◌∙◌}
-use mathlib.Core.Bool.{Bool, cond}
-use native.Mathlib.Omega.{arith}
-use borrow.Author.Rules.{rules}
-use Rattle.search.proofs.Counts.{passes-next, passes-end}
+use Rattle.std.proofs.Common.{◌<◌, length, arith}
+use Rattle.std.specs.Slice.Iter.{windows_rest}
+use Rattle.search.proofs.Counts.{pair-counted, pair-left, passes-end}
 use Rattle.search.proofs.passes_in.Goals as goal
 
-pub loop-i-init : goal.loop-i-init
-loop-i-init c = (omega arith, omega arith, omega arith)
+pub loop-pair-preserved-then-begins_pass : goal.loop-pair-preserved-then-begins_pass
+loop-pair-preserved-then-begins_pass c =
+    let v = c.loop-pair.invariant in
+    let s = c.in-Some.ensures.steps in
+    let counted = pair-counted _ v.size s.1.0 s.1.1 s.1.2 _ c.if-begins_pass.ensures in
+    let left = pair-left _ v.size s.1.0 s.1.1 s.1.2 in
+    record { can_next = omega arith; finite = tt; size = omega arith; few = omega arith; counted = omega arith }
 
-pub overflow_add-count : goal.overflow_add-count
-overflow_add-count c = let few = c.one_if-count.ensures.1 in let below = c.loop-i.invariant.1 in search rules
-
-pub loop-i-preserved : goal.loop-i-preserved
-loop-i-preserved c =
-    let l = c.loop-i in
-    let t = c.args.trace.now in
-    let one = c.one_if-count.ensures.0 ∙ ap (λ (b : Bool). cond b 1 0) c.begins_pass.ensures in
-    let few = c.one_if-count.ensures.1 in
-    let left = passes-next t l.i c.loop-i-test.true in
-    let so = l.invariant.2 in
-    (omega arith, omega arith, omega arith)
+pub loop-pair-preserved : goal.loop-pair-preserved
+loop-pair-preserved c =
+    let v = c.loop-pair.invariant in
+    let s = c.in-Some.ensures.steps in
+    let counted = pair-counted _ v.size s.1.0 s.1.1 s.1.2 _ c.if-begins_pass.ensures in
+    let left = pair-left _ v.size s.1.0 s.1.1 s.1.2 in
+    record { can_next = omega arith; finite = tt; size = omega arith; few = omega arith; counted = omega arith }
 
 pub returns : goal.returns
 returns c =
-    let l = c.loop-i in
-    let none = passes-end c.args.trace.now l.i (omega arith) in
-    let so = l.invariant.2 in
+    let v = c.loop-pair.invariant in
+    let s = c.in-None.ensures.steps in
+    let few : length (windows_rest c.loop-pair.pair-iterator) < 2 = omega arith in
+    let none = passes-end _ few in
     omega arith

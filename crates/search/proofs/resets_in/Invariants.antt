@@ -1,13 +1,6 @@
-use Prim.Native.Nat.{◌+◌, ◌-◌, ◌≤◌}
-use mathlib.Core.Path.{◌≡◌}
-use lib.ListN.{length, drop}
-use Rattle.search_laws.specs.Words.{resets_in}
+use Rattle.std.proofs.Common.{◌≡◌, eqb, take}
+use Rattle.std.specs.List.{count_by}
 use Rattle.search.proofs.resets_in.Given as goal
 
-abbrev pub invariant-loop-i : goal.invariant-loop-i
-invariant-loop-i l =
-    (l.i ≤ length l.trace) × (l.count ≤ l.i) × (l.count + resets_in (drop l.i l.trace) ≡ resets_in l.trace)
-
-abbrev pub decreases-loop-i : goal.decreases-loop-i
-decreases-loop-i l =
-    length l.trace - l.i
+abbrev pub invariant-loop-event : goal.invariant-loop-event
+invariant-loop-event l = l.count ≡ count_by (λ x. eqb x 2) (take l.event-index l.trace)

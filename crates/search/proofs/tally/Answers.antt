@@ -1,7 +1,6 @@
-use native.Mathlib.Nat.{sub-zero}
-use Rattle.search.specs.Found.{found_in}
+use Rattle.search.specs.Found.{found_in, search_told}
 use Rattle.search.proofs.tally.Goals as goal
 
 pub returns : goal.returns
-unfolding found_in
-returns c = simp (c.slots_in-slots.ensures, c.resets_in-resets.ensures, c.passes_in-passes.ensures, sub-zero)
+unfolding found_in search_told
+returns c = simp (c.slots_in.ensures, c.resets_in.ensures, c.passes_in.ensures)

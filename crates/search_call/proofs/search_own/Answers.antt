@@ -7,8 +7,7 @@ use Rattle.search_call.proofs.search_own.Goals as goal
 pub returns : goal.returns
 unfolding host_search
 returns c =
-    let same = ap (λ (l : LineState). search_outcome_of c.args.image.now c.args.codes.now c.args.trace.now (replicate 64 l))
-    c.waiting-waiting.ensures in
+    let same = ap (λ (l : LineState). search_outcome_of c.args.image.now c.args.codes.now c.args.trace.now (replicate 64 l)) c.waiting-lines.ensures in
     let left = c.search.ensures in (
       record {
         found-is = left.0.found-is ∙ ap (λ (o : SearchOutcome). o.found) same;

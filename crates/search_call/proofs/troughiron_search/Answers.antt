@@ -1,14 +1,20 @@
+use Rattle.std.proofs.Common.{refl}
+use Rattle.search.specs.Found.{search_told}
+use Rattle.search.proofs.Counts.{some_number}
 use Rattle.search_call.proofs.Laws.{sees-counts, sees-none}
 use Rattle.search_call.proofs.troughiron_search.Goals as goal
 
-pub returns-then-number-eq-ACCEPTED : goal.returns-then-number-eq-ACCEPTED
-returns-then-number-eq-ACCEPTED c =
-    let o = c.search_own-found in
+pub returns-in-Ok : goal.returns-in-Ok
+unfolding search_told
+returns-in-Ok c =
     let a = c.args in
-    (sees-counts _ a.passes.now a.resets.now a.slots.now o.result _ _ o.ensures.0 c.if-number-eq-ACCEPTED.true, o.ensures.1)
+    let o = c.in-Ok.ensures in
+    (sees-counts _ a.passes.now a.resets.now a.slots.now _ _ _ o.0 refl, λ e. o.1)
 
-pub returns-else-number-eq-ACCEPTED : goal.returns-else-number-eq-ACCEPTED
-returns-else-number-eq-ACCEPTED c =
-    let o = c.search_own-found in
+pub returns-in-Err : goal.returns-in-Err
+unfolding search_told
+returns-in-Err c =
     let a = c.args in
-    (sees-none _ a.passes.now a.resets.now a.slots.now o.result _ _ o.ensures.0 c.if-number-eq-ACCEPTED.false, o.ensures.1)
+    let o = c.in-Err.ensures in
+    rw c.from.ensures
+    (sees-none _ a.passes.now a.resets.now a.slots.now _ _ _ o.0 (some_number c.in-Err.refusal), λ e. absurd (some_number c.in-Err.refusal e))

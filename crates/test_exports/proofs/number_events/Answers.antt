@@ -33,7 +33,7 @@ module _ (trace : List ℕ) (n k : ℕ) (entry : RunState) (image : List ℕ) (l
 
 pub loop-k-init : goal.loop-k-init
 unfolding run_events_up_to numbers
-loop-k-init c = record { few = omega arith; ran = refl; lined = refl; numbered = refl }
+loop-k-init c = record { ran = refl; lined = refl; numbered = refl }
 
 pub loop-k-preserved : goal.loop-k-preserved
 loop-k-preserved c =
@@ -45,7 +45,6 @@ loop-k-preserved c =
     let done = c.step-result in
     let left = stepped a.trace.now a.n l.k entry l.image l.lines v.ran v.lined done.result done.ensures.0 few done.new.image done.new.lines done.ensures.1 done.ensures.2 in
     record {
-      few = omega arith;
       ran = left.0;
       lined = left.1;
       numbered = numbered a.trace.now a.n l.k entry l.image l.lines v.ran v.lined done.result done.ensures.0 l.looked v.numbered c.number_of.result c.number_of.ensures;

@@ -1,23 +1,18 @@
-use mathlib.Core.Path.{sym, ap, ◌∙◌}
-use Prim.Native.Nat.{ℕ}
-use Rattle.test_exports.specs.Looked.{looked_after}
+use mathlib.Core.Path.{sym}
+use Rattle.image.specs.Refusal.{told_number}
 use Rattle.test_exports.proofs.Numbers.{after-refused}
 use Rattle.test_exports.proofs.probe_looked.Goals as goal
 
-pub returns-then-number-eq-ACCEPTED : goal.returns-then-number-eq-ACCEPTED
-returns-then-number-eq-ACCEPTED c =
-    let s = c.args in
-    let refused = c.refusal-number in (
-      refused.ensures,
-      c.number_copy.ensures
-          ∙ ap (λ (m : ℕ). looked_after m s.image.now s.trace.now s.looked.now)
-          (sym c.if-number-eq-ACCEPTED.true),
-    )
+pub number_copy-requires : goal.number_copy-requires
+unfolding told_number
+number_copy-requires c = sym c.in-Ok.ensures
 
-pub returns-else-number-eq-ACCEPTED : goal.returns-else-number-eq-ACCEPTED
-returns-else-number-eq-ACCEPTED c =
+pub returns-in-Ok : goal.returns-in-Ok
+unfolding told_number
+returns-in-Ok c = (c.in-Ok.ensures, c.number_copy.ensures)
+
+pub returns-in-Err : goal.returns-in-Err
+unfolding told_number
+returns-in-Err c =
     let s = c.args in
-    let refused = c.refusal-number in (
-      refused.ensures,
-      after-refused refused.result s.image.now s.trace.now s.looked.now c.if-number-eq-ACCEPTED.false,
-    )
+    rw c.from.ensures (c.in-Err.ensures, after-refused c.in-Err.refusal s.image.now s.trace.now s.looked.now)

@@ -8,7 +8,7 @@ pub returns : goal.returns
 unfolding host_run
 returns c =
     let same = ap (λ (l : LineState). run_of c.args.image.now c.args.trace.now c.args.answers.now (replicate 64 l))
-    c.waiting-waiting.ensures in
+    c.waiting-lines.ensures in
     record {
       result-is = c.run.ensures.result-is ∙ ap (λ (o : RunOutcome). o.result) same;
       image-is = c.run.ensures.image-is ∙ ap (λ (o : RunOutcome). o.image) same;

@@ -1,10 +1,8 @@
 use Rattle.troughiron.proofs.Laws.{sees-copied, sees-refused}
 use Rattle.troughiron.proofs.troughiron_run.Goals as goal
 
-pub returns-then-refusal-eq-ACCEPTED : goal.returns-then-refusal-eq-ACCEPTED
-returns-then-refusal-eq-ACCEPTED c =
-    sees-copied _ c.args.copied.now c.run_own-result.result _ _ c.run_own-result.ensures c.if-refusal-eq-ACCEPTED.true
+pub returns-in-Ok : goal.returns-in-Ok
+returns-in-Ok c = sees-copied _ c.args.copied.now _ _ c.in-Ok.bytes c.in-Ok.ensures
 
-pub returns-else-refusal-eq-ACCEPTED : goal.returns-else-refusal-eq-ACCEPTED
-returns-else-refusal-eq-ACCEPTED c =
-    sees-refused _ c.args.copied.now c.run_own-result.result _ _ c.run_own-result.ensures c.if-refusal-eq-ACCEPTED.false
+pub returns-in-Err : goal.returns-in-Err
+returns-in-Err c = rw c.from.ensures (sees-refused _ c.args.copied.now _ _ c.in-Err.refusal c.in-Err.ensures)

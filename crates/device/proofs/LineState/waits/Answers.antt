@@ -22,4 +22,5 @@ pub returns : goal.returns
 unfolding waits
 returns c =
     let state = c.args.self in
-    both state.transfer.left state.overdrive
+    ap (λ (n : ℕ). eqb (bit_or state.transfer.left n) 0) c.from.ensures
+    ∙ both state.transfer.left state.overdrive

@@ -1,4 +1,0 @@
-use Rattle.device.proofs.LineState.waiting.Goals as goal
-
-pub returns : goal.returns
-returns c = simp c.waiting.ensures

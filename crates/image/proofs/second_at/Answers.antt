@@ -1,4 +1,0 @@
-use Rattle.image.proofs.second_at.Goals as goal
-
-pub returns : goal.returns
-returns c = simp (c.byte_at.ensures, c.wide.ensures)

@@ -1,7 +1,0 @@
-use Rattle.master.specs.Master.{pass_completed}
-use mathlib.Core.Path.{refl}
-use Rattle.master.proofs.Master.completed.Goals as goal
-
-pub returns : goal.returns
-unfolding pass_completed
-returns c = refl

@@ -1,4 +1,0 @@
-use Rattle.sram.proofs.read_register.Goals as goal
-
-pub returns : goal.returns
-returns c = simp (c.sending.ensures, c.byte_at.ensures, c.in_sram.ensures)
