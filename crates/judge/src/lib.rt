@@ -290,6 +290,7 @@ fn back_by(j: usize, back: Back, overdrive: bool, part: Part) -> Back
 
 // ---- one device, followed over a recording
 
+// As it is: `end` and `overdrive` are the part's and k goes on in it, so that a struct would be built for each k.
 impl<'a> Followed<'a> {
     // This is the line state after event k.
     #[tactic(auto, unfolding(crate::specs::Loops::line_next))]
@@ -655,7 +656,7 @@ fn check(
 
 // Each of the first n devices is looked at in the event at the reader's place, before the event; one in the ROM stage
 // adds nothing to what is seen. Nothing changes.
-// As it is: n stands beside the line states, as `bus::step` has it, whose definition keeps those from n on.
+// As it is: n stands beside the line states, as `seen_up_to` says what the first n of all lent line states show.
 fn look(recording: Recording, image: &[u8], lines: &[LineState], n: usize) -> Seen
     requires { n ≤ length lines.now }
     ensures { result ≡ seen_up_to recording.entry.trace.now recording.entry.answers.now image.now

@@ -1,6 +1,6 @@
 // This crate is the reader of a recorded session: a struct that holds the trace that a program sent, the answers that
 // it recorded, and a place in both. A reader begins before the first event, is asked at each event, and moves on to the
-// next.
+// next. The methods are thin; what they tell is a function over plain slices and numbers.
 #![tactic(auto)]
 
 ghost use Rattle.std.specs.Prelude.{◌≡◌, length, get_or};
@@ -12,6 +12,21 @@ pub struct Recording<'a> {
     answers: &'a [u8],
     // Events are counted from 0.
     pub at: usize,
+}
+
+#[tactic(auto, unfolding(crate::specs::Recorded::agrees_at, bits::specs::Bit::level_byte))]
+fn agrees_at(trace: &[u8], answers: &[u8], k: usize, level: bool) -> bool
+    ensures { result ≡ agrees_at trace.now answers.now k level }
+{
+    k < trace.len() && k < answers.len() && answers[k] == u8::from(level)
+}
+
+// At the end of the trace the reader stays.
+#[tactic(auto, unfolding(crate::specs::Recorded::next_at))]
+fn next_at(events: usize, k: usize) -> usize
+    ensures { result ≡ next_at events k }
+{
+    if k < events { k + 1 } else { k }
 }
 
 impl<'a> Recording<'a> {
@@ -45,20 +60,15 @@ impl<'a> Recording<'a> {
     pub fn agrees(self, level: bool) -> bool
         ensures { result ≡ agrees_at self.entry.trace.now self.entry.answers.now self.entry.at level }
     {
-        let k = self.at;
-        k < self.trace.len() && k < self.answers.len() && self.answers[k] == u8::from(level)
+        agrees_at(self.trace, self.answers, self.at, level)
     }
 
-    // The reader moves past the event at its place, and at the end of the trace it stays.
+    // The reader moves past the event at its place.
     pub fn next(self) -> Self
         ensures { (result.trace ≡ self.entry.trace) × (result.answers ≡ self.entry.answers)
             × (result.at ≡ next_at (length self.entry.trace.now) self.entry.at) }
     {
-        let at = if self.at < self.trace.len() {
-            self.at + 1
-        } else {
-            self.at
-        };
+        let at = next_at(self.trace.len(), self.at);
         Recording { at, ..self }
     }
 }
