@@ -7,9 +7,9 @@ ghost use Rattle.std.specs.Prelude.{◌≡◌, length, get_or};
 ghost use Rattle.recording.specs.Recorded.{agrees_at, next_at, level_at};
 
 #[derive(Clone, Copy)]
-pub struct Recording<'a> {
+pub struct Recording<'a, 'b> {
     trace: &'a [u8],
-    answers: &'a [u8],
+    answers: &'b [u8],
     // Events are counted from 0.
     pub at: usize,
 }
@@ -29,9 +29,9 @@ fn next_at(events: usize, k: usize) -> usize
     if k < events { k + 1 } else { k }
 }
 
-impl<'a> Recording<'a> {
+impl<'a, 'b> Recording<'a, 'b> {
     // The reader stands before the first event.
-    pub fn new(trace: &'a [u8], answers: &'a [u8]) -> Self
+    pub fn new(trace: &'a [u8], answers: &'b [u8]) -> Self
         ensures { (result.trace ≡ trace.entry) × (result.answers ≡ answers.entry) × (result.at ≡ 0) }
     {
         Recording {
