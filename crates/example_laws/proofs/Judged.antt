@@ -25,7 +25,8 @@ use Rattle.bus.specs.Refusal.{some_byte, bad_trace, no_first_reset, bad_pulse, n
 use Rattle.bus.specs.Run.{devices_from, waiting_devices, bodies_of, left_by_run, run_at, run_of}
 use Rattle.judge.specs.Rules.{heard_slot, passed_over, is_last, is_command, is_memory_command, completes, is_high_byte, is_address_end, is_write_address, writes, is_made, accepts_copy, bits_from, wanted_bits, shows_bits, some_read_shows, some_write, shown_since_write, moments_of, count_below}
 use Rattle.bus.specs.Bus.{taken_state, hears, answers_low, master_high, heard_state, heard_body, unheard_state, heard_copied}
-use Rattle.judge.specs.Judge.{Accepted, none as nowhere, or_here}
+use Rattle.judge.specs.declared.Verdict.TheVariants.{Accepted}
+use Rattle.judge.specs.Judge.{none as nowhere, or_here}
 use Rattle.judge.proofs.OnePass.{pass_from, one-pass}
 use Rattle.example_laws.specs.Judged.{Recording, Right, Every, none, ◌and◌, table, overdrive_row, Judged}
 

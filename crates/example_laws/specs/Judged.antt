@@ -3,7 +3,9 @@
 use Rattle.std.specs.Prelude.{ℕ, ◌≡◌, List, [], ◌∷◌, ◌++◌, set}
 use Rattle.bus.specs.Run.{waiting_devices}
 use Rattle.judge.specs.declared.Rule.TheVariants.{Answers, Command, Copy}
-use Rattle.judge.specs.Judge.{Verdict, Accepted, Broken, verdict_of}
+use Rattle.judge.specs.declared.Verdict.{Verdict}
+use Rattle.judge.specs.declared.Verdict.TheVariants.{Accepted, Broken}
+use Rattle.judge.specs.Judge.{verdict_of}
 use Rattle.example_laws.specs.Session.{SessionStep, reset, write, write_bits, read, skip, select, events_of_steps}
 use Rattle.example_laws.specs.Session.{levels_of_steps, overdrive_reset, unheard_reset, overdrive_write}
 use Rattle.example_laws.specs.Images.{ds1992_code, second_code, zeros, sram_body, blank_ds1992, blank_ds1996}

@@ -7,7 +7,7 @@ use native.Mathlib.Omega.{arith}
 use native.Mathlib.Numerals.{add-one}
 use lib.ListN.{length, get_or}
 use lib.Dec.{eqb, ltb, lit<}
-use borrow.Author.Tests.{le-ltb}
+use borrow.Author.Tests.{ltb-true, ltb-false, le-ltb, lt-ltb}
 use Rattle.kind.specs.declared.Kind.{Kind}
 use Rattle.device.specs.declared.LineState.{LineState}
 use Rattle.image.specs.Image.{count_of}
@@ -29,7 +29,8 @@ use Rattle.judge.specs.declared.Doing.TheVariants.{Command, Address, Pattern, Ot
 use Rattle.judge.specs.declared.Seen.{Seen}
 use Rattle.judge.specs.Loops.{doing_of, careless_at, seen_by, seen_with, at_memory, seen_up_to}
 use Rattle.judge.specs.Loops.{back_at, back_from, careful_by}
-use Rattle.judge.specs.Judge.{Verdict, Accepted, Broken, Refused}
+use Rattle.judge.specs.declared.Verdict.{Verdict}
+use Rattle.judge.specs.declared.Verdict.TheVariants.{Accepted, Broken, Refused}
 use Rattle.judge.specs.Loops.{verdict_next, still_looked_at}
 
 -- ---- the part of a trace
@@ -96,21 +97,30 @@ module _ (trace answers body : List ℕ) (overdrive : Bool) (end : ℕ) where
   shown-none k at due left false b true e = absurd (true≢false e)
   shown-none k at due left false b false e = refl
 
-  pub shown-stop : (k at due : ℕ) → k < end → 0 < due → goes_on_at trace answers body overdrive k at ≡ false → shown at due k (end - k) ≡ false
+  -- a read that does not go on, or that comes to the end, has shown too little
+  pub shown-stop : (k at due : ℕ) → 0 < due → (ltb k end && goes_on_at trace answers body overdrive k at) ≡ false → shown at due k (end - k) ≡ false
   unfolding shown_from goes_on_at
-  shown-stop k at zero small h e = absurd (omega arith)
-  shown-stop k at (suc due) small h e =
-      let n : end - k ≡ suc (end - suc k) = omega (arith, small) in
-      ap (shown at (suc due) k) n
-      ∙ shown-none k at due (end - suc k) (slot_at (get_or trace k 0) overdrive) (beq (level_at answers k) (wanted_bit body at)) (passed_at (get_or trace k 0) overdrive) e
+  shown-stop k at zero h e = absurd (omega arith)
+  shown-stop k at (suc due) h e = choose (ltb k end) refl
+    where
+      choose : (x : Bool) → ltb k end ≡ x → shown at (suc due) k (end - k) ≡ false
+      choose true f =
+          let small : k < end = ltb-true k end f in
+          let n : end - k ≡ suc (end - suc k) = omega (arith, small) in
+          ap (shown at (suc due) k) n
+          ∙ shown-none k at due (end - suc k) (slot_at (get_or trace k 0) overdrive) (beq (level_at answers k) (wanted_bit body at)) (passed_at (get_or trace k 0) overdrive)
+          (sym (ap (λ (x : Bool). x && cond (slot_at (get_or trace k 0) overdrive) (beq (level_at answers k) (wanted_bit body at)) (passed_at (get_or trace k 0) overdrive)) f) ∙ e)
+      choose false f =
+          let n : end - k ≡ 0 = omega (arith, ltb-false k end f) in
+          ap (shown at (suc due) k) n
 
-  -- a read that comes to the end has shown too little
   pub shown-short : (k at due : ℕ) → end ≤ k → 0 < due → shown at due k (end - k) ≡ false
-  unfolding shown_from
-  shown-short k at zero small h = absurd (omega arith)
-  shown-short k at (suc due) small h =
-      let n : end - k ≡ 0 = omega (arith, small) in
-      ap (shown at (suc due) k) n
+  shown-short k at due late h =
+      shown-stop k at due h (ap (λ (x : Bool). x && goes_on_at trace answers body overdrive k at) (le-ltb k end late))
+
+  pub shown-broken : (k at due : ℕ) → k < end → 0 < due → goes_on_at trace answers body overdrive k at ≡ false → shown at due k (end - k) ≡ false
+  shown-broken k at due small h e =
+      shown-stop k at due h (ap (λ (x : Bool). x && goes_on_at trace answers body overdrive k at) (lt-ltb k end small) ∙ e)
 
   pub shown-all : (k at due left : ℕ) → due ≡ 0 → shown at due k left ≡ true
   unfolding shown_from
@@ -127,15 +137,33 @@ module _ (trace answers : List ℕ) (kind : Kind) (body : List ℕ) where
       let n : suc j - 1 ≡ j = omega arith in
       rw n (rw e refl)
 
+  -- the walk stops where it has decided, and before the first event
+  pub back_end : (j : ℕ) (back : Back) → (ltb 0 j && not back.decided) ≡ false → back_from trace answers kind body j back ≡ back
+  unfolding back_from
+  back_end zero back e = refl
+  back_end (suc j) back e =
+      let some : ltb 0 (suc j) ≡ true = lt-ltb 0 (suc j) (omega arith) in
+      split back.decided (rw some at e)
+    where
+      split : (b : Bool) → (true && not b) ≡ false
+          → cond b back (back_from trace answers kind body j (back_at trace answers kind body j back)) ≡ back
+      split true e = refl
+      split false e = absurd (true≢false e)
+
   pub back_done : (j : ℕ) (back : Back) → back.decided ≡ true → careful_by (back_from trace answers kind body j back) ≡ back.shown
-  unfolding back_from careful_by
-  back_done zero back e = rw e refl
-  back_done (suc j) back e = rw e refl
+  unfolding careful_by
+  back_done j back e =
+      ap careful_by (back_end j back (ap (λ (b : Bool). ltb 0 j && not b) e ∙ never (ltb 0 j))) ∙ ap (λ (b : Bool). b && back.shown) e
+    where
+      never : (b : Bool) → (b && false) ≡ false
+      never true = refl
+      never false = refl
 
   -- before the first event there is no write
-  pub back_end : (j : ℕ) (back : Back) → j ≡ 0 → back.decided ≡ false → careful_by (back_from trace answers kind body j back) ≡ false
-  unfolding back_from careful_by
-  back_end j back n e = rw n (rw e refl)
+  pub back_none : (j : ℕ) (back : Back) → j ≡ 0 → back.decided ≡ false → careful_by (back_from trace answers kind body j back) ≡ false
+  unfolding careful_by
+  back_none j back n e =
+      ap careful_by (back_end j back (ap (λ (m : ℕ). ltb 0 m && not back.decided) n)) ∙ ap (λ (b : Bool). b && back.shown) e
 
 -- ---- why a recording is not judged
 

@@ -13,7 +13,9 @@ use Rattle.image.specs.Refusal.{some_below}
 use Rattle.bus.specs.declared.Event.{Event}
 use Rattle.bus.specs.Bus.{Device, event_of, level_of, next_device, run_trace}
 use Rattle.judge.specs.declared.Rule.TheVariants as rules
-use Rattle.judge.specs.Judge.{Verdict, Accepted, Broken, Refused, First, none, at, or_here, first_below, verdict_by, verdict_of}
+use Rattle.judge.specs.declared.Verdict.{Verdict}
+use Rattle.judge.specs.declared.Verdict.TheVariants.{Accepted, Broken, Refused}
+use Rattle.judge.specs.Judge.{First, none, at, or_here, first_below, verdict_by, verdict_of}
 use Rattle.judge.specs.Rules.{at_memory_command, completes, accepts_copy, wanted_bits, shown_since_write, devices_at, moment_of, moments_of, breaks_a, count_below, breaks_b, breaks_c}
 use Rattle.judge.proofs.Devices.{devices-next}
 use Rattle.judge.proofs.Shown.{here-cases, answer_at}

@@ -23,7 +23,8 @@ use Rattle.device.specs.Device.{waiting_state, stage_copy, copy_in_slot_as_is, c
 use Rattle.bus.specs.Bus.{Device, event_of, taken_state, hears, run_trace, is_slot}
 use Rattle.bus.specs.Run.{left_by_run, run_at, run_of}
 use Rattle.bus.specs.Refusal.{run_refusal}
-use Rattle.judge.specs.Judge.{Accepted, First, none, or_here, first_below, verdict_by, verdict_of, left_by_judge, judge_at, judge_of}
+use Rattle.judge.specs.declared.Verdict.TheVariants.{Accepted}
+use Rattle.judge.specs.Judge.{First, none, or_here, first_below, verdict_by, verdict_of, left_by_judge, judge_at, judge_of}
 use Rattle.judge.specs.Rules.{Moment, heard_slot, is_last, is_memory_command, at_memory_command, completes, is_made, accepts_copy, wanted_bits, shown_since_write}
 use Rattle.judge.specs.Rules.{device_at, devices_at, moment_at, moments_of, breaks_a, count_below, breaks_b, breaks_c}
 use Rattle.judge.specs.Refusal.{judge_refusal}

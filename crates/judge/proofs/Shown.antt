@@ -26,14 +26,16 @@ use Rattle.bus.specs.Bus.{Device, event_of, level_of, bus_step_at, bus_step, Run
 use Rattle.bus.specs.Run.{waiting_devices, states_of}
 use Rattle.bus.specs.Refusal.{no_first_reset, run_refusal}
 use Rattle.bus.specs.Loops.{place_in, device_at_place, device_in, line_at, BusState, bus_state, turns_up_to, filled_up_to, fewer_of}
-use Rattle.bus.proofs.Laws.{admitted, Admitted, fewer-first}
+use Rattle.bus.proofs.Laws.{admitted, Admitted, fewer-first, filled-length}
 use Rattle.bus.proofs.Ranges.{AllIn, run_in}
 use Rattle.bus.proofs.Runs.{run-append, run_length, run-same, same_length}
 use Rattle.bus.proofs.Shown.{Stand, stand-same, image_of, device-is, level-is, turned-is, waiting-all, waiting-stands, waiting-in, waiting-image, waiting-states, filled_is}
 use Rattle.judge.specs.declared.Rule.TheVariants as rules
 use Rattle.image.specs.declared.Refusal.{Refusal}
 use Rattle.image.specs.Refusal.{refusal_number}
-use Rattle.judge.specs.Judge.{Verdict, Accepted, Broken, Refused, First, none, at, or_here, first_below, verdict_by, verdict_of, JudgeOutcome, judge_outcome, JudgeLeaves, left_by_judge, judge_at, judge_of}
+use Rattle.judge.specs.declared.Verdict.{Verdict}
+use Rattle.judge.specs.declared.Verdict.TheVariants.{Accepted, Broken, Refused}
+use Rattle.judge.specs.Judge.{First, none, at, or_here, first_below, verdict_by, verdict_of, JudgeOutcome, judge_outcome, JudgeLeaves, left_by_judge, judge_at, judge_of}
 use Rattle.judge.specs.declared.Seen.{Seen}
 use Rattle.judge.specs.Rules.{Moment, at_memory_command, is_memory_command, completes, is_made, accepts_copy, wanted_bits, shown_since_write, device_at, devices_at, moment_at, moments_of, breaks_a, count_below, breaks_b, breaks_c}
 use Rattle.judge.specs.Refusal.{judge_refusal}
@@ -383,6 +385,19 @@ pub judge-refused : (refusal : Refusal) (image trace answers work : List ℕ) (l
 unfolding judge_of
 judge-refused refusal image trace answers work lines e =
     refused-at (refusal_number refusal) image trace answers work lines (some_refusal refusal) ∙ ap (λ (m : ℕ). judge_at m image trace answers work lines) e
+
+-- what is not refused has a line state for each device, also once they wait
+pub events_room : (image trace : List ℕ) (answers work : ℕ) (lines waiting : List LineState) (n : ℕ)
+    → 0 ≡ judge_refusal image trace answers work (length lines) → n ≡ count_of image
+    → waiting ≡ filled_up_to (fewer_of n (length lines)) waiting_state lines → n ≤ length waiting
+events_room image trace answers work lines waiting n accepted count filled =
+    omega (
+      arith,
+      (admits image trace answers work (length lines) (sym accepted)).run.lines-room,
+      count,
+      ap length filled,
+      filled-length (fewer_of n (length lines)) waiting_state lines,
+    )
 
 -- what the judge left, as one equation and as an equation for each thing
 pub judge-leaves : (left : JudgeOutcome) (verdict : Verdict) (work : List ℕ) (lines : List LineState)

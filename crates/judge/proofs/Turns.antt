@@ -10,7 +10,7 @@ use Rattle.bus.specs.declared.EventResult.{EventResult}
 use Rattle.bus.specs.Loops.{line_at, level_on, scan_on, copied_on, step_on, event_result, BusState, bus_state, turns_up_to}
 use Rattle.bus.proofs.Laws.{step-on}
 use Rattle.judge.specs.declared.Seen.{Seen}
-use Rattle.judge.specs.Judge.{Verdict}
+use Rattle.judge.specs.declared.Verdict.{Verdict}
 use Rattle.judge.specs.Loops.{seen_with, at_memory, seen_up_to, verdict_next, still_looked_at}
 use Rattle.judge.specs.Loops.{JudgeState, judge_state, judge_event_at, judge_events_up_to}
 use Rattle.judge.proofs.Laws.{seen_few, rom-adds-nothing, still-enough}
@@ -28,29 +28,35 @@ module _ (trace answers image : List ℕ) (lines : List LineState) (k i : ℕ) (
   unfolding seen_up_to
   seen_next = rw add-one refl
 
-  -- a device that the loop reads out of the first n lines
-  read : (n : ℕ) (d : LineState) → i < length (take n lines) → n ≤ length lines → get_or (take n lines) i d ≡ line_at lines i
-  read n d within few =
-      get_or-take n lines i d (omega (arith, within, length-take-le n lines few))
-      ∙ get_or_default lines i d waiting_state (omega (arith, within, length-take-le n lines few))
-
   -- the device at place i is past the ROM stage, and is looked at
-  pub look_done : (n : ℕ) (d : LineState) → i < length (take n lines) → n ≤ length lines → (next : Seen)
-      → next ≡ seen_with trace answers image k i (get_or (take n lines) i d) seen
+  pub look_done : (d : LineState) → i < length lines → (next : Seen)
+      → next ≡ seen_with trace answers image k i (get_or lines i d) seen
       → next ≡ seen_up_to trace answers image lines k (i + 1)
-  look_done n d within few next e =
-      e ∙ ap (λ (l : LineState). seen_with trace answers image k i l seen) (read n d within few)
+  look_done d within next e =
+      e ∙ ap (λ (l : LineState). seen_with trace answers image k i l seen) (get_or_default lines i d waiting_state within)
       ∙ ap (seen_with trace answers image k i (line_at lines i)) so_far
       ∙ sym seen_next
 
   -- it is in the ROM stage, and adds nothing
-  pub look_rom : (n : ℕ) (d : LineState) → i < length (take n lines) → n ≤ length lines
-      → at_memory (get_or (take n lines) i d).transfer.stage ≡ false → seen ≡ seen_up_to trace answers image lines k (i + 1)
-  look_rom n d within few e =
-      so_far
-      ∙ sym (rom-adds-nothing trace answers image lines k i
-      (ap (λ (l : LineState). at_memory l.transfer.stage) (sym (read n d within few)) ∙ e))
-      ∙ ap (seen_up_to trace answers image lines k) (sym (add-one i))
+  pub look_rom : at_memory (line_at lines i).transfer.stage ≡ false → seen ≡ seen_up_to trace answers image lines k (i + 1)
+  look_rom e =
+      so_far ∙ sym (rom-adds-nothing trace answers image lines k i e) ∙ ap (seen_up_to trace answers image lines k) (sym (add-one i))
+
+  -- the same of a device that the loop reads out of the first n lines
+  module _ (n : ℕ) (d : LineState) (within : i < length (take n lines)) (few : n ≤ length lines) where
+    below : (i < n) × (i < length lines)
+    below = (omega (arith, within, length-take-le n lines few), omega (arith, within, few, length-take-le n lines few))
+
+    read : get_or (take n lines) i d ≡ get_or lines i d
+    read = get_or-take n lines i d below.0
+
+    pub taken_done : (next : Seen) → next ≡ seen_with trace answers image k i (get_or (take n lines) i d) seen
+        → next ≡ seen_up_to trace answers image lines k (i + 1)
+    taken_done next e = look_done d below.1 next (e ∙ ap (λ (l : LineState). seen_with trace answers image k i l seen) read)
+
+    pub taken_rom : at_memory (get_or (take n lines) i d).transfer.stage ≡ false → seen ≡ seen_up_to trace answers image lines k (i + 1)
+    taken_rom e =
+        look_rom (ap (λ (l : LineState). at_memory l.transfer.stage) (sym (read ∙ get_or_default lines i d waiting_state below.1)) ∙ e)
 
 -- ---- `judge_events`
 

@@ -11,14 +11,10 @@ use Rattle.bus.specs.Run.{waiting_devices, table_of_contents, bodies_of, states_
 use Rattle.judge.specs.declared.Rule.{Rule}
 use Rattle.judge.specs.declared.Rule.TheVariants.{Answers, Command, Copy}
 use Rattle.judge.specs.declared.Broken as broken
+use Rattle.judge.specs.declared.Verdict.{Verdict}
+use Rattle.judge.specs.declared.Verdict.TheVariants.{Accepted, Broken, Refused}
 use Rattle.judge.specs.Rules.{breaks_a, breaks_b, breaks_c}
 use Rattle.judge.specs.Refusal.{judge_refusal}
-
--- A recording is accepted, breaks a rule in an event, which is the first that does, or is refused with a number.
-pub data Verdict : Type 0 where
-  Accepted : Verdict
-  Broken : Rule → ℕ → Verdict
-  Refused : ℕ → Verdict
 
 -- What the judge holds while it goes over a recording, and what it answers, as verdicts.
 unfoldable pub so_far : Option broken.Broken → Verdict

@@ -23,7 +23,8 @@ use Rattle.bus.specs.Bus.{device_with, event_of, hears, is_slot, is_overdrive}
 use Rattle.bus.specs.Loops.{place_in, next_state_as_is, line_at, level_on, bus_state, turns_up_to}
 use Rattle.judge.specs.declared.Rule.{Rule}
 use Rattle.judge.specs.declared.Rule.TheVariants as rules
-use Rattle.judge.specs.Judge.{Verdict, Accepted, Broken, Refused}
+use Rattle.judge.specs.declared.Verdict.{Verdict}
+use Rattle.judge.specs.declared.Verdict.TheVariants.{Accepted, Broken, Refused}
 use Rattle.judge.specs.declared.Doing.{Doing}
 use Rattle.judge.specs.declared.Doing.TheVariants.{Command, Address, Pattern, Other}
 use Rattle.judge.specs.declared.Mark.{Mark}

@@ -9,13 +9,15 @@
 #![tactic(auto)]
 
 ghost use Rattle.std.specs.Prelude.{◌≡◌, ◌≤◌, ◌<◌, ◌+◌, ◌-◌, true, false, cond, ◌||◌, length, eqb};
+ghost use Rattle.std.proofs.lemmas.List.Edits.{sets};
 ghost use Rattle.image.specs.Refusal.{told_number};
 ghost use Rattle.sram.specs.Sram.{target_offset};
 ghost use Rattle.device.specs.Device.{reset_at};
 ghost use Rattle.bus.specs.Bus.{device_with};
 ghost use Rattle.bus.specs.Loops.{place_in, next_state_as_is};
 ghost use Rattle.judge.specs.Refusal.{judge_refusal};
-ghost use Rattle.judge.specs.Judge.{Accepted, so_far, told, rule_number, refusal_of, rule_of, broken_at};
+ghost use Rattle.judge.specs.declared.Verdict.TheVariants.{Accepted};
+ghost use Rattle.judge.specs.Judge.{so_far, told, rule_number, refusal_of, rule_of, broken_at};
 ghost use Rattle.judge.specs.Judge.{JudgeLeaves, judge_of};
 ghost use Rattle.judge.specs.Loops.{doing_of, slot_at, passed_at, after_slot_at};
 ghost use Rattle.judge.specs.Loops.{line_next, mark_by, mark_of, wanted_bytes, wanted_bit, goes_on_at, bits_in};
@@ -47,6 +49,15 @@ pub enum Rule {
 pub struct Broken {
     pub rule: Rule,
     pub event: usize,
+}
+
+// What a recording is told as: a C program is told a refusal by its number, which may be any.
+#[derive(Clone, Copy)]
+pub enum Verdict {
+    Accepted,
+    // The event is the first that breaks the rule.
+    Broken { rule: Rule, event: usize },
+    Refused(u32),
 }
 
 // What a device does in a stage, as far as the rules look at it.
@@ -101,7 +112,7 @@ struct Seen {
 // A device that is followed over a recording by value: it has this kind, and this body at the copy that is looked at.
 #[derive(Clone, Copy)]
 struct Followed<'a> {
-    recording: Recording<'a>,
+    recording: Recording<'a, 'a>,
     kind: Kind,
     body: &'a [u8],
 }
@@ -594,38 +605,52 @@ impl From<Rule> for u64 {
     }
 }
 
+// What the judge answers is told as a verdict, a refusal by its number.
+impl From<Result<Option<Broken>, Refusal>> for Verdict {
+    ghost from_gives = { λ answer verdict. verdict ≡ told answer };
+
+    #[tactic(auto, unfolding(crate::specs::Judge::told, crate::specs::Judge::so_far))]
+    fn from(answer: Result<Option<Broken>, Refusal>) -> Self {
+        match answer {
+            Ok(None) => Verdict::Accepted,
+            Ok(Some(Broken { rule, event })) => Verdict::Broken { rule, event },
+            Err(refusal) => Verdict::Refused(u32::from(refusal)),
+        }
+    }
+}
+
 // The refusal's number is 0 where the recording is judged.
 // As it is: this and the next two give the C interface its numbers.
-#[tactic(auto, unfolding(crate::specs::Judge::told, crate::specs::Judge::so_far, crate::specs::Judge::refusal_of))]
-pub fn refusal_of(verdict: Result<Option<Broken>, Refusal>) -> u32
-    ensures { result ≡ refusal_of (told verdict) }
+#[tactic(auto, unfolding(crate::specs::Judge::refusal_of))]
+pub fn refusal_of(verdict: Verdict) -> u32
+    ensures { result ≡ refusal_of verdict }
 {
     match verdict {
-        Ok(_) => ACCEPTED,
-        Err(refusal) => u32::from(refusal),
+        Verdict::Accepted | Verdict::Broken { .. } => ACCEPTED,
+        Verdict::Refused(number) => number,
     }
 }
 
 // The broken rule is 1 for A, 2 for B and 3 for C; it is 0 where none is broken.
-#[tactic(auto, unfolding(crate::specs::Judge::told, crate::specs::Judge::so_far, crate::specs::Judge::rule_of))]
-pub fn rule_of(verdict: Result<Option<Broken>, Refusal>) -> u64
-    ensures { result ≡ rule_of (told verdict) }
+#[tactic(auto, unfolding(crate::specs::Judge::rule_of))]
+pub fn rule_of(verdict: Verdict) -> u64
+    ensures { result ≡ rule_of verdict }
 {
     match verdict {
-        Ok(Some(broken)) => u64::from(broken.rule),
-        _ => 0,
+        Verdict::Broken { rule, .. } => u64::from(rule),
+        Verdict::Accepted | Verdict::Refused(_) => 0,
     }
 }
 
 // The event that breaks the rule is 0 where none is broken.
-#[tactic(auto, unfolding(crate::specs::Judge::told, crate::specs::Judge::so_far, crate::specs::Judge::broken_at))]
-pub fn event_of(verdict: Result<Option<Broken>, Refusal>) -> u64
-    ensures { result ≡ broken_at (told verdict) }
+#[tactic(auto, unfolding(crate::specs::Judge::broken_at))]
+pub fn event_of(verdict: Verdict) -> u64
+    ensures { result ≡ broken_at verdict }
 {
     match verdict {
         // As it is: a C program is told a u64, and no From goes from usize to it.
-        Ok(Some(broken)) => broken.event as u64,
-        _ => 0,
+        Verdict::Broken { event, .. } => event as u64,
+        Verdict::Accepted | Verdict::Refused(_) => 0,
     }
 }
 
@@ -653,6 +678,16 @@ fn check(
 }
 
 // ---- all devices, and the trace
+
+// The image is laid over the start of the work space.
+// As it is: `copy_from_slice` is the C library's memmove, and the library for C needs nothing of the C library.
+fn lay(image: &[u8], work: &mut [u8])
+    ensures { work.new ≡ sets work.old 0 image.now }
+{
+    for (k, byte) in image.iter().enumerate() {
+        bits::put_byte(work, k, *byte);
+    }
+}
 
 // Each of the first n devices is looked at in the event at the reader's place, before the event; one in the ROM stage
 // adds nothing to what is seen. Nothing changes.
@@ -706,6 +741,7 @@ fn judge_events(
 // A recording that is refused changes nothing; in any other the bench runs the whole trace in the work space, whatever
 // the verdict is.
 // As it is: image, trace, answers and work space are arguments of their own, as the C interface lends each by itself.
+#[tactic(auto, using(crate::proofs::Shown::events_room), unfolding(image::specs::Refusal::told_number))]
 pub fn judge(
     image: &[u8],
     trace: &[u8],
@@ -719,7 +755,7 @@ pub fn judge(
 {
     check(image, trace, answers.len(), work.len(), lines.len())?;
     let n = bus::device_count(image);
-    work[..image.len()].copy_from_slice(image);
+    lay(image, work);
     bus::wait_all(lines, n);
     Ok(judge_events(trace, answers, work, lines, n))
 }

@@ -15,7 +15,8 @@ use Rattle.bus.specs.declared.Event.TheVariants.{Slot, Reset, Pulse, OverdriveSl
 use Rattle.bus.specs.Bus.{Device, event_of, bus_step, with_answer, run_trace, is_slot}
 use Rattle.bus.specs.Refusal.{run_refusal}
 use Rattle.bus.specs.Run.{waiting_devices, RunOutcome, left_by_run, run_at, run_of}
-use Rattle.judge.specs.Judge.{Accepted, verdict_of, left_by_judge, judge_at, judge_of}
+use Rattle.judge.specs.declared.Verdict.TheVariants.{Accepted}
+use Rattle.judge.specs.Judge.{verdict_of, left_by_judge, judge_at, judge_of}
 use Rattle.judge.specs.Rules.{devices_at}
 use Rattle.judge.specs.Refusal.{judge_refusal}
 use Rattle.judge.proofs.Laws.{judged-room}

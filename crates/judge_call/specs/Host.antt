@@ -3,7 +3,8 @@
 use Rattle.std.specs.Prelude.{ℕ, ◌≡◌, List, replicate}
 use Rattle.device.specs.Device.{waiting_state}
 use Rattle.image.specs.Counted.{count_after}
-use Rattle.judge.specs.Judge.{Verdict, refusal_of, rule_of, broken_at, JudgeOutcome, judge_of}
+use Rattle.judge.specs.declared.Verdict.{Verdict}
+use Rattle.judge.specs.Judge.{refusal_of, rule_of, broken_at, JudgeOutcome, judge_of}
 
 -- Of a judgement without its line states, the verdict and the work space are left.
 pub record OwnJudgeLeaves (left : JudgeOutcome) (verdict : Verdict) (work : List ℕ) : Type 0 where

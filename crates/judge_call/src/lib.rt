@@ -7,7 +7,7 @@ ghost use Rattle.judge_call.specs.Host.{OwnJudgeLeaves, HostJudgeLeaves, host_ju
 
 use device::LineState;
 use image::Refusal;
-use judge::Broken;
+use judge::{Broken, Verdict};
 
 // The judge has 64 line states of its own, as an image has at most 64 devices.
 fn judge_own(
@@ -38,8 +38,9 @@ pub extern "C" fn troughiron_judge(
         (host_judge image.now trace.now answers.now work.old)
         rule.old event.old result work.new rule.new event.new }
 {
-    let verdict = judge_own(image, trace, answers, work);
-    if verdict.is_ok() {
+    let answer = judge_own(image, trace, answers, work);
+    let verdict = Verdict::from(answer);
+    if answer.is_ok() {
         *rule = judge::rule_of(verdict);
         *event = judge::event_of(verdict);
     }

@@ -1,12 +1,12 @@
-use Rattle.std.proofs.Common.{◌≡◌, ℕ, ◌++◌, length, drop, sym, ap, ◌∙◌, arith}
-use Rattle.std.proofs.lemmas.List.{length-take-le}
+use Rattle.std.proofs.Common.{◌≡◌, ◌+◌, ◌≤◌, ℕ, ◌++◌, length, drop, sym, ap, ◌∙◌, arith}
+use Rattle.std.proofs.lemmas.List.Edits.{sets-eq}
 use Rattle.std.proofs.lemmas.Result.{err_from_is_err_and}
 use Rattle.image.specs.Image.{count_of}
 use Rattle.image.specs.Refusal.{told_number}
 use Rattle.device.specs.Device.{waiting_state}
 use Rattle.bus.specs.Loops.{filled_up_to, fewer_of}
-use Rattle.bus.proofs.Laws.{filled-length}
-use Rattle.judge.specs.Judge.{Accepted, so_far, told, judge_outcome, judge_of}
+use Rattle.judge.specs.declared.Verdict.TheVariants.{Accepted}
+use Rattle.judge.specs.Judge.{so_far, told, judge_outcome, judge_of}
 use Rattle.judge.specs.Refusal.{judge_refusal}
 use Rattle.judge.specs.Loops.{judge_state, judge_events_up_to}
 use Rattle.judge.proofs.Shown.{judged, admits, judge-shown, judge-refused, judge-leaves}
@@ -24,31 +24,6 @@ returns-in_err-check c =
     rw (p.1, p.2)
     (judge-leaves (judge_of im trace answers work ls) _ _ _ (judge-refused _ im trace answers work ls c.in_err-check.ensures))
 
-pub slice_bounds-copy_from_slice-end : goal.slice_bounds-copy_from_slice-end
-unfolding told_number
-slice_bounds-copy_from_slice-end c = (admits _ _ _ _ _ (sym c.in_ok-check.ensures)).work-room
-
-pub slice_bounds-copy_from_slice-end-2 : goal.slice_bounds-copy_from_slice-end-2
-unfolding told_number
-slice_bounds-copy_from_slice-end-2 c = sym (length-take-le _ _ (admits _ _ _ _ _ (sym c.in_ok-check.ensures)).work-room)
-
-pub copy_from_slice-requires : goal.copy_from_slice-requires
-unfolding told_number
-copy_from_slice-requires c = length-take-le _ _ (admits _ _ _ _ _ (sym c.in_ok-check.ensures)).work-room
-
-pub judge_events-requires : goal.judge_events-requires
-unfolding told_number
-judge_events-requires c =
-    let ls = c.args.lines.now in
-    let room = (admits _ _ _ _ _ (sym c.in_ok-check.ensures)).run.lines-room in
-    omega (
-      arith,
-      room,
-      c.device_count-n.ensures,
-      ap length c.wait_all.ensures,
-      filled-length (fewer_of c.device_count-n.result (length ls)) waiting_state ls,
-    )
-
 pub returns : goal.returns
 unfolding told_number told
 returns c =
@@ -58,6 +33,10 @@ returns c =
     let work = c.args.work.now in
     let ls = c.args.lines.now in
     let none : judge_refusal im trace (length answers) (length work) (length ls) ≡ 0 = sym c.in_ok-check.ensures in
+    let room : length im ≤ length work = (admits _ _ _ _ _ none).work-room in
+    let size : 0 + length im ≡ length im = omega arith in
+    let laid : c.lay.new.work ≡ im ++ drop (length im) work =
+    c.lay.ensures ∙ sets-eq im work 0 (omega (arith, room)) ∙ ap (λ (m : ℕ). im ++ drop m work) size in
     let count : c.device_count-n.result ≡ count_of im = c.device_count-n.ensures in
     let filled : c.wait_all.new.lines ≡ filled_up_to (fewer_of (count_of im) (length ls)) waiting_state ls =
     c.wait_all.ensures ∙ ap (λ (m : ℕ). filled_up_to (fewer_of m (length ls)) waiting_state ls) count in
@@ -65,6 +44,6 @@ returns c =
     ≡ judged im trace answers work ls =
     c.judge_events.ensures
     ∙ (λ i. judge_events_up_to trace answers (count i) (length trace)
-    (judge_state Accepted (c.copy_from_slice.ensures.after i ++ drop (length im) work) (filled i))) in
+    (judge_state Accepted (laid i) (filled i))) in
     judge-leaves (judge_of im trace answers work ls) _ _ _
     ((λ i. judge_outcome (done i).verdict (done i).work (done i).lines) ∙ judge-shown im trace answers work ls none)

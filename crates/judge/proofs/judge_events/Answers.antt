@@ -1,7 +1,8 @@
 use Rattle.std.proofs.Common.{◌≡◌, ◌≤◌, ◌+◌, ℕ, List, length, get_or, sym, ap, ◌∙◌, arith}
 use denote.Ref.{Bor}
 use Rattle.recording.specs.Recorded.{agrees_at, next_at}
-use Rattle.judge.specs.Judge.{Accepted, so_far}
+use Rattle.judge.specs.declared.Verdict.TheVariants.{Accepted}
+use Rattle.judge.specs.Judge.{so_far}
 use Rattle.judge.specs.Loops.{seen_up_to, judge_state, judge_events_up_to}
 use Rattle.judge.proofs.Laws.{still-few}
 use Rattle.judge.proofs.Turns.{place_next, event_judged}

@@ -1,5 +1,6 @@
 use Rattle.std.proofs.Common.{◌≡◌, ◌≤◌, ◌-◌, length}
-use Rattle.judge.specs.Judge.{Accepted, so_far}
+use Rattle.judge.specs.declared.Verdict.TheVariants.{Accepted}
+use Rattle.judge.specs.Judge.{so_far}
 use Rattle.judge.specs.Loops.{judge_state, judge_events_up_to}
 use Rattle.judge.proofs.judge_events.Given as goal
 

@@ -2,7 +2,7 @@ use Rattle.std.proofs.Common.{sym, ◌∙◌, arith}
 use Rattle.std.proofs.lemmas.Grind.{common_steps}
 use Rattle.std.proofs.lemmas.List.{length-take-le}
 use Rattle.judge.specs.Loops.{seen_up_to}
-use Rattle.judge.proofs.Turns.{look_room, look_done, look_rom}
+use Rattle.judge.proofs.Turns.{look_room, taken_done, taken_rom}
 use Rattle.judge.proofs.look.Goals as goal
 use Rattle.judge.proofs.look.Goals.{then-is_at_memory, else-is_at_memory}
 
@@ -21,8 +21,8 @@ loop-i-preserved c =
     elim c.if-is_at_memory.branch [
       | then-is_at_memory w ↦
           w.seen-is
-          ∙ look_done _ _ _ _ _ _ _ so_far c.args.n _ c.loop-i-test.true c.requires w.seen_with-seen.result w.seen_with-seen.ensures
+          ∙ taken_done _ _ _ _ _ _ _ so_far c.args.n _ c.loop-i-test.true c.requires w.seen_with-seen.result w.seen_with-seen.ensures
       | else-is_at_memory w ↦
           w.seen-is
-          ∙ look_rom _ _ _ _ _ _ _ so_far c.args.n _ c.loop-i-test.true c.requires (sym c.is_at_memory.ensures ∙ w.if-is_at_memory.false)
+          ∙ taken_rom _ _ _ _ _ _ _ so_far c.args.n _ c.loop-i-test.true c.requires (sym c.is_at_memory.ensures ∙ w.if-is_at_memory.false)
     ]

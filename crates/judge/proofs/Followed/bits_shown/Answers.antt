@@ -2,7 +2,7 @@ use Rattle.std.proofs.Common.{◌≡◌, ℕ, ◌+◌, ◌-◌, ◌<◌, ◌≤�
 use Rattle.std.proofs.lemmas.Bool.{cases_lt}
 use borrow.Author.Tests.{eq-eqb, ne_eqb}
 use Rattle.judge.specs.Loops.{shown_from, bits_in}
-use Rattle.judge.proofs.Laws.{shown-step, shown-stop, shown-all, shown-short}
+use Rattle.judge.proofs.Laws.{shown-step, shown-broken, shown-all, shown-short}
 use Rattle.judge.proofs.Followed.bits_shown.Goals as goal
 
 -- at the end of the part all bits were shown if none is due
@@ -21,7 +21,7 @@ returns-then-not-reads_on c =
     let f = c.args.self in
     let l = c.loop-event in
     let due : 0 < c.args.count - l.at = omega (arith, l.invariant.in_range, c.if-at-count.false) in
-    sym (shown-stop f.recording.trace.now f.recording.answers.now f.body.now c.args.overdrive c.args.end l.event l.at (c.args.count - l.at) c.loop-event-test.true due (sym c.reads_on.ensures ∙ c.if-not-reads_on.true))
+    sym (shown-broken f.recording.trace.now f.recording.answers.now f.body.now c.args.overdrive c.args.end l.event l.at (c.args.count - l.at) c.loop-event-test.true due (sym c.reads_on.ensures ∙ c.if-not-reads_on.true))
     ∙ l.invariant.so_far
 
 pub loop-event-preserved : goal.loop-event-preserved

@@ -1,7 +1,7 @@
 use Rattle.std.proofs.Common.{◌-◌, arith, refl, sym, ap, ◌∙◌}
 use Rattle.judge.specs.declared.Back.{Back}
 use Rattle.judge.specs.Loops.{back_from, careful_by, careful_at}
-use Rattle.judge.proofs.Laws.{back_step, back_done, back_end}
+use Rattle.judge.proofs.Laws.{back_step, back_done, back_none}
 use Rattle.judge.proofs.Followed.is_careful.Goals as goal
 
 pub loop-j-init : goal.loop-j-init
@@ -35,5 +35,5 @@ returns c =
     let r = c.args.self.recording in
     let f = c.args.self in
     let l = c.loop-j in
-    sym (back_end r.trace.now r.answers.now f.kind f.body.now l.j l.back (omega (arith, c.loop-j-test.false)) l.invariant.looks)
+    sym (back_none r.trace.now r.answers.now f.kind f.body.now l.j l.back (omega (arith, c.loop-j-test.false)) l.invariant.looks)
     ∙ l.invariant.so_far
