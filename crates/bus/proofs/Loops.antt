@@ -1,7 +1,7 @@
 -- What the loops of `src/` keep from turn to turn, as their invariants say it: `shift_all` goes past devices, `slot_all`
 -- and `turn_all` give each its turn, `read_slot_all` and `read_turn_all` leave the line states alone, and `run_events`
 -- goes from event to event. A line state that a loop reads is `get_or` at a default of the compiler's choice.
-use Rattle.std.proofs.Common.{◌≡◌, ℕ, suc, ◌+◌, ◌-◌, ◌^◌, min, ◌<◌, ◌≤◌, Bool, true, false, List, length, get_or, set, refl, sym, ap, ◌∙◌, add-one, arith}
+use Rattle.std.proofs.Common.{◌≡◌, ℕ, zero, suc, ◌+◌, ◌-◌, ◌^◌, min, ◌<◌, ◌≤◌, Bool, true, false, List, length, get_or, set, refl, sym, ap, ◌∙◌, add-one, arith}
 use Rattle.std.proofs.lemmas.List.{get_or_default}
 use package.mir.Val.{bool_byte}
 use Rattle.bits.specs.Bit.{level_byte}
@@ -11,7 +11,7 @@ use Rattle.bus.specs.declared.EventResult.{EventResult}
 use Rattle.bus.specs.Bus.{event_of, is_slot, hears}
 use Rattle.bus.specs.Loops.{slot_byte, ends_in, pass_state, passes_from, shifted_from, line_at, BusState, bus_state}
 use Rattle.bus.specs.Loops.{level_on, scan_on, step_on, copied_on, event_result, RunState, run_state, run_event_at, run_events_up_to, copied_by_events}
-use Rattle.bus.specs.Loops.{turn_state, turn_image, turn_copied, turn_at, turns_up_to, copied_up_to, added_to}
+use Rattle.bus.specs.Loops.{passed_over, turn_state, turn_image, turn_copied, turn_at, turns_up_to, copied_up_to, added_to}
 use Rattle.bus.specs.Loops.{heard_state_as_is, heard_body_as_is, place_in, device_in, image_with_body}
 use Rattle.bus.specs.declared.Event.{Event}
 use Rattle.bus.proofs.Idle.{other-over, unheard-line, unheard-turn, heard-state, heard-image}
@@ -169,6 +169,12 @@ step_done image v t i ys ls so_far d within next g =
     ap (set ls i) (g ∙ ap (λ (l : LineState). turn_state image i l v t) (get_or_default ls i d waiting_state within))
     ∙ ap (λ (zs : List LineState). set zs i (turn_state image i (line_at zs i) v t)) so_far
     ∙ sym (steps_next image v t i ys)
+
+-- the turns go by the event, whatever byte it has
+pub same-turns : (v w : ℕ) → event_of v ≡ event_of w → (t : Bool) (i : ℕ) (s : BusState) → turns_up_to v t i s ≡ turns_up_to w t i s
+unfolding turns_up_to turn_at turn_state turn_image passed_over
+same-turns v w e t zero s = refl
+same-turns v w e t (suc i) s = rw (same-turns v w e t i s, e) refl
 
 -- a reset or a program pulse, in which `event` is what the byte stands for: a device hears it or not
 module _ (v : ℕ) (other : is_slot (event_of v) ≡ false) (i : ℕ) where

@@ -495,17 +495,32 @@ fn slot_all(
 
 // Each of the first n devices that hears it has its part in a reset or a program pulse; the others stay as they are.
 // The level has no part in it, and is 1 in the contract.
-fn turn_all(image: &mut [u8], lines: &mut [LineState], n: usize, byte: u8)
-    requires { (n ≤ length lines.old) × (is_slot (event_of byte) ≡ false) }
+// As it is: the byte is a const parameter, as a loop that tells the event at each device takes twice the time.
+fn turn_each<const BYTE: u8>(image: &mut [u8], lines: &mut [LineState], n: usize)
+    requires { (n ≤ length lines.old) × (is_slot (event_of BYTE) ≡ false) }
     ensures { bus_state image.new lines.new
-        ≡ turns_up_to byte true n (bus_state image.old lines.old) }
+        ≡ turns_up_to BYTE true n (bus_state image.old lines.old) }
 {
-    let event = Event::from(byte);
+    let event = Event::from(BYTE);
     for i in 0..n {
         let state = lines[i];
         if hears(event, state) {
             lines[i] = turn(image, i, state, event);
         }
+    }
+}
+
+// Each of the first n devices that hears it has its part in an event that is no slot, which is a reset at one of the
+// two speeds or a program pulse; each of the three has a loop of its own.
+fn turn_all(image: &mut [u8], lines: &mut [LineState], n: usize, byte: u8)
+    requires { (n ≤ length lines.old) × (is_slot (event_of byte) ≡ false) }
+    ensures { bus_state image.new lines.new
+        ≡ turns_up_to byte true n (bus_state image.old lines.old) }
+{
+    match Event::from(byte) {
+        Event::Reset => turn_each::<2>(image, lines, n),
+        Event::OverdriveReset => turn_each::<6>(image, lines, n),
+        _ => turn_each::<3>(image, lines, n),
     }
 }
 

@@ -1,30 +1,33 @@
-use Rattle.std.proofs.Common.{◌<◌, ℕ, List, length, refl, sym, ap, ◌∙◌, arith}
-use Rattle.device.specs.declared.LineState.{LineState}
-use Rattle.bus.specs.Loops.{bus_state, turns_up_to}
-use Rattle.bus.proofs.Loops.{turn_heard, turn_unheard}
+use Rattle.std.proofs.Common.{true, refl, sym, ◌∙◌}
+use Rattle.bus.specs.Bus.{event_of, is_slot}
+use Rattle.bus.proofs.Idle.{other-pulse}
+use Rattle.bus.proofs.Loops.{same-turns}
 use Rattle.bus.proofs.turn_all.Goals as goal
-use Rattle.bus.proofs.turn_all.Goals.{then-hears, else-hears}
 
-pub loop-i-init : goal.loop-i-init
-unfolding turns_up_to
-loop-i-init c = refl
+pub turn_each-requires : goal.turn_each-requires
+unfolding event_of is_slot
+turn_each-requires c = (c.requires.0, refl)
 
-pub loop-i-preserved : goal.loop-i-preserved
-loop-i-preserved c =
-    let v = c.args.byte in
-    let i = c.loop-i.i in
-    let s = bus_state c.args.image.now c.args.lines.now in
-    let im = c.loop-i.image in
-    let ls = c.loop-i.lines in
-    let inv = c.loop-i.invariant in
-    let within : i < length ls = omega arith in
-    elim c.if-hears.branch [
-      | then-hears w ↦
-          ap (λ (ys : List LineState). bus_state c.if-hears.image ys) w.lines-is
-          ∙ turn_heard v c.requires.1 i s im ls inv _ within c.from-event.result c.from-event.ensures (sym c.hears.ensures ∙ w.if-hears.true)
-          c.if-hears.image w.turn.result (w.image-is ∙ w.turn.ensures.1) w.turn.ensures.0
-      | else-hears w ↦
-          ap (λ (ys : List LineState). bus_state c.if-hears.image ys) w.lines-is
-          ∙ ap (λ (xs : List ℕ). bus_state xs ls) w.image-is
-          ∙ turn_unheard v c.requires.1 i s im ls inv _ within c.from-event.result c.from-event.ensures (sym c.hears.ensures ∙ w.if-hears.false)
-    ]
+pub turn_each-requires-in-OverdriveReset : goal.turn_each-requires-in-OverdriveReset
+unfolding event_of is_slot
+turn_each-requires-in-OverdriveReset c = (c.requires.0, refl)
+
+pub turn_each-requires-in_default : goal.turn_each-requires-in_default
+unfolding event_of is_slot
+turn_each-requires-in_default c = (c.requires.0, refl)
+
+pub returns-in-Reset : goal.returns-in-Reset
+unfolding event_of
+returns-in-Reset c =
+    c.turn_each.ensures ∙ same-turns 2 c.args.byte (sym c.in-Reset.is ∙ c.from.ensures) true c.args.n _
+
+pub returns-in-OverdriveReset : goal.returns-in-OverdriveReset
+unfolding event_of
+returns-in-OverdriveReset c =
+    c.turn_each-in-OverdriveReset.ensures ∙ same-turns 6 c.args.byte (sym c.in-OverdriveReset.is ∙ c.from.ensures) true c.args.n _
+
+pub returns-in_default : goal.returns-in_default
+unfolding event_of
+returns-in_default c =
+    let pulse = other-pulse _ (rw c.from.ensures c.requires.1) c.in_default.not-Reset c.in_default.not-OverdriveReset in
+    c.turn_each-in_default.ensures ∙ same-turns 3 c.args.byte (sym pulse ∙ c.from.ensures) true c.args.n _
