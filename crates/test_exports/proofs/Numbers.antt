@@ -1,13 +1,11 @@
 -- Where a run is not refused, the numbers that the loop below `probe_looked` writes are those that `specs/Looked.antt`
 -- says; and an image that is not refused is no longer than the copy that is made of it. Assumes nothing.
-use Prim.Native.Nat.{ℕ, zero, suc, ◌+◌, ◌-◌, ◌<◌, ◌≤◌}
+use Prim.Native.Nat.{ℕ, zero, suc, ◌+◌, ◌-◌, ◌≤◌}
 use mathlib.Core.Path.{◌≡◌, refl, sym, ap, ◌∙◌}
 use mathlib.Core.List.{List, [], ◌∷◌, ◌++◌}
 use native.Mathlib.Omega.{arith}
 use lib.ListN.{length, get_or, set, take, drop, replicate, length-set, length-replicate, replicate-append-replicate}
-use Rattle.std.proofs.Common.{min}
-use lib.ListN.{take-append-drop, length-drop}
-use lib.Seq.{set_out, sets, length-sets, sets-eq, take_at, length-take-le, set_at, take-suc, drop-cons, append_snoc, take-length}
+use lib.Seq.{sets, length-sets, sets-eq, take_at, length-take-le, set_at, take-suc, drop-cons, append_snoc, take-length}
 use Rattle.image.specs.Image.{count_of}
 use Rattle.image.specs.Refusal.{image_refusal}
 use Rattle.image.specs.declared.Refusal.{Refusal}
@@ -35,36 +33,6 @@ use Rattle.test_exports.specs.Loops.{number_for, number_of, numbers}
 
 pub image-most : (image : List ℕ) → image_refusal image ≡ 0 → length image ≤ 65535
 image-most image e = (accepted-known image e).short
-
--- stores of one part after another, and stores past the end
-sets-append : (xs ys l : List ℕ) (i : ℕ) → sets l i (xs ++ ys) ≡ sets (sets l i xs) (i + length xs) ys
-sets-append [] ys l i = let e : i ≡ i + 0 = omega arith in ap (λ (k : ℕ). sets l k ys) e
-sets-append (x ∷ xs) ys l i =
-    let e : suc i + length xs ≡ i + suc (length xs) = omega arith in
-    sets-append xs ys (set l i x) (suc i) ∙ ap (λ (k : ℕ). sets (sets (set l i x) (suc i) xs) k ys) e
-
-sets-past : (ys l : List ℕ) (i : ℕ) → (0 < length ys → length l ≤ i) → sets l i ys ≡ l
-sets-past [] l i h = refl
-sets-past (y ∷ ys) l i h =
-    let past : length l ≤ i = h (omega arith) in
-    ap (λ (k : List ℕ). sets k (suc i) ys) (set_out l i y past) ∙ sets-past ys l (suc i) (λ _. omega (arith, past))
-
--- a part goes to the front as far as there is room
-pub sets_front : (part into : List ℕ) (n : ℕ) → n ≡ min (length part) (length into)
-    → take n part ++ drop n into ≡ sets into 0 part
-sets_front part into n e =
-    let few : n ≤ length part = omega (arith, e) in
-    let room : n ≤ length into = omega (arith, e) in
-    let front : List ℕ = take n part in
-    let taken : 0 + length front ≡ n = omega (arith, length-take-le n part few) in
-    let put : sets into 0 front ≡ front ++ drop n into =
-    sets-eq front into 0 (omega (arith, taken, room)) ∙ ap (λ (k : ℕ). front ++ drop k into) taken in
-    let rest : sets (sets into 0 front) n (drop n part) ≡ sets into 0 front =
-    sets-past (drop n part) (sets into 0 front) n (λ some. omega (arith, e, some, length-drop n part, length-sets into 0 front)) in
-    sym (ap (sets into 0) (sym (take-append-drop n part))
-    ∙ sets-append front (drop n part) into 0
-    ∙ ap (λ (k : ℕ). sets (sets into 0 front) k (drop n part)) taken
-    ∙ rest ∙ put)
 
 -- the copy: the front of so many bytes, where it has room there
 pub copy-length : (image : List ℕ) (m : ℕ) → length (sets (replicate m 0) 0 image) ≡ m

@@ -86,11 +86,13 @@ pub extern "C" fn probe_drive(
 }
 
 // This copies a part to the front of a buffer, as much of it as there is room for.
+// As it is: `copy_from_slice` is the C library's memmove, which no other call of this crate needs.
 fn copy_out(part: &[u8], into: &mut [u8])
     ensures { into.new ≡ sets into.old 0 part.now }
 {
-    let n = part.len().min(into.len());
-    into[..n].copy_from_slice(&part[..n]);
+    for (i, byte) in part.iter().enumerate() {
+        bits::put_byte(into, i, *byte);
+    }
 }
 
 // The bytes still to be read from a DS1982's fields are copied out, and their number is returned.
